@@ -148,13 +148,13 @@ fn answer_to_nine_runs(
 #[test]
 fn counts_ends_and_rows_by_the_profile(rt: HostRuntime) -> Result<(), Fail> {
     let alloc = rt.alloc();
-    let told = answer_to_nine_runs(alloc, Profile::Eight, 8)?;
-    assert_eq!(rt; told, Err(Reason::Ends));
-    let told = answer_to_nine_runs(alloc, Profile::Eight, 16)?;
-    assert_eq!(rt; told, Err(Reason::Length));
-    let told = answer_to_nine_runs(alloc, Profile::Sixteen, 8)?;
-    assert_eq!(rt; told, Err(Reason::Length));
-    let told = answer_to_nine_runs(alloc, Profile::Sixteen, 16)?;
-    assert_eq!(rt; told, Err(Reason::Total));
+    let verdict = answer_to_nine_runs(alloc, Profile::Eight, 8)?;
+    assert_eq!(rt; verdict, Err(Reason::Ends));
+    let verdict = answer_to_nine_runs(alloc, Profile::Eight, 16)?;
+    assert_eq!(rt; verdict, Err(Reason::Length));
+    let verdict = answer_to_nine_runs(alloc, Profile::Sixteen, 8)?;
+    assert_eq!(rt; verdict, Err(Reason::Length));
+    let verdict = answer_to_nine_runs(alloc, Profile::Sixteen, 16)?;
+    assert_eq!(rt; verdict, Err(Reason::Total));
     Ok(())
 }

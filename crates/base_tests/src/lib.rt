@@ -3,13 +3,13 @@
 #![tactic(auto)]
 
 #[cfg(test)]
+mod borrowed_files;
+#[cfg(test)]
 mod checking;
 #[cfg(test)]
 mod costs;
 #[cfg(test)]
 mod keeping_asks;
-#[cfg(test)]
-mod lent_files;
 #[cfg(test)]
 mod limits;
 #[cfg(test)]

@@ -38,8 +38,8 @@ fn has_literals(list: &LitList, literals: &[&[u8]]) -> bool {
 
 /// Whether patterns stand at these places of a normal form, and a null one where a place is none.
 fn stand_at(normal: &Normal, places: &[Option<u16>]) -> bool {
-    let is_told = normal.has_empty == places.contains(&None);
-    is_told && normal.place_of.as_slice() == places
+    let is_right = normal.has_empty == places.contains(&None);
+    is_right && normal.place_of.as_slice() == places
 }
 
 /// Whether these patterns have these literals in normal form, and stand there at these places.
@@ -60,8 +60,8 @@ fn is_normal_form(
 fn folds_drops_repeats_and_sets_null_aside(rt: HostRuntime) {
     let patterns: [&[u8]; 3] = [b"Cat", b"cat", b""];
     let places = [Some(0), Some(0), None];
-    let is_told = is_normal_form(rt.alloc(), Fold::Ascii, &patterns, &[b"cat"], &places);
-    assert_eq!(rt; is_told, Some(true));
+    let is_right = is_normal_form(rt.alloc(), Fold::Ascii, &patterns, &[b"cat"], &places);
+    assert_eq!(rt; is_right, Some(true));
 }
 
 #[test]
@@ -69,14 +69,14 @@ fn orders_by_length_and_then_by_bytes(rt: HostRuntime) {
     let patterns: [&[u8]; 6] = [b"horse", b"b", b"dog", b"a", b"cat", b"dog"];
     let literals: [&[u8]; 5] = [b"a", b"b", b"cat", b"dog", b"horse"];
     let places = [Some(4), Some(1), Some(3), Some(0), Some(2), Some(3)];
-    let is_told = is_normal_form(rt.alloc(), Fold::No, &patterns, &literals, &places);
-    assert_eq!(rt; is_told, Some(true));
+    let is_right = is_normal_form(rt.alloc(), Fold::No, &patterns, &literals, &places);
+    assert_eq!(rt; is_right, Some(true));
 }
 
 #[test]
 fn takes_a_list_without_literals(rt: HostRuntime) {
-    let is_told = is_normal_form(rt.alloc(), Fold::No, &[b""], &[], &[None]);
-    assert_eq!(rt; is_told, Some(true));
+    let is_right = is_normal_form(rt.alloc(), Fold::No, &[b""], &[], &[None]);
+    assert_eq!(rt; is_right, Some(true));
 }
 
 /// `count` patterns of two bytes, each different and the first 1,024 without letters, and two of one letter that differ

@@ -163,8 +163,8 @@ fn gives_the_ninth_bucket_a_bit_of_its_own(rt: HostRuntime) -> Result<(), Fail> 
     Ok(())
 }
 
-/// The tables by the fronts of all words, where there is an offset and a bucket for each.
-fn fronts_of(
+/// The tables by the prefixes of all words, where there is an offset and a bucket for each.
+fn prefixes_of(
     alloc: Global,
     fold: Fold,
     words: &str,
@@ -176,12 +176,12 @@ fn fronts_of(
     if offsets.len() < count || buckets.len() < count {
         return Ok(None);
     }
-    Ok(Some(ByteMasks::of_fronts(&list, count, offsets, buckets)))
+    Ok(Some(ByteMasks::of_prefixes(&list, count, offsets, buckets)))
 }
 
 #[test]
-fn marks_fronts_in_their_own_buckets_alone(rt: HostRuntime) -> Result<(), Fail> {
-    let found = fronts_of(rt.alloc(), Fold::No, "abc xyzt", &[0, 1], &[0, 9])?;
+fn marks_prefixes_in_their_own_buckets_alone(rt: HostRuntime) -> Result<(), Fail> {
+    let found = prefixes_of(rt.alloc(), Fold::No, "abc xyzt", &[0, 1], &[0, 9])?;
     let found = found.ok_or("there is a bucket for each word")?;
     assert_eq!(rt; found.plain(b'a', b'b', b'c'), 1);
     assert_eq!(rt; found.plain(b'x', b'y', b'z'), 2);
@@ -192,8 +192,8 @@ fn marks_fronts_in_their_own_buckets_alone(rt: HostRuntime) -> Result<(), Fail> 
 }
 
 #[test]
-fn marks_short_fronts_in_either_case(rt: HostRuntime) -> Result<(), Fail> {
-    let found = fronts_of(rt.alloc(), Fold::Ascii, "ab", &[0], &[3])?;
+fn marks_short_prefixes_in_either_case(rt: HostRuntime) -> Result<(), Fail> {
+    let found = prefixes_of(rt.alloc(), Fold::Ascii, "ab", &[0], &[3])?;
     let found = found.ok_or("there is a bucket for the word")?;
     assert_eq!(rt; found.plain(b'.', b'a', b'B'), 8);
     assert_eq!(rt; found.plain(b'.', b'b', b'b'), 0);

@@ -235,7 +235,7 @@ fn cost_read_with_refusal(alloc: Global, call: u64) -> Result<u64, Fault> {
 }
 
 /// Whether the reader answers a refusal of this call, or the cost where it makes fewer calls.
-fn is_refusal_told(alloc: Global, call: u64) -> Result<bool, AllocError> {
+fn reports_refusal(alloc: Global, call: u64) -> Result<bool, AllocError> {
     let cost = cost_read_with_refusal(alloc, call);
     if cost == Err(Fault::OutOfMemory) {
         return Err(AllocError);
@@ -252,9 +252,9 @@ fn is_refusal_told(alloc: Global, call: u64) -> Result<bool, AllocError> {
 }
 
 #[test]
-fn tells_each_refused_read(rt: HostRuntime) -> Result<(), Fail> {
+fn reports_each_refused_read(rt: HostRuntime) -> Result<(), Fail> {
     for call in 0..9 {
-        assert!(rt; is_refusal_told(rt.alloc(), call)?, "at call {call}");
+        assert!(rt; reports_refusal(rt.alloc(), call)?, "at call {call}");
     }
     Ok(())
 }

@@ -46,7 +46,7 @@ fn fault_of_folder(rt: &HostRuntime) -> Option<ReadError> {
 }
 
 #[test]
-fn tells_what_is_missing(rt: HostRuntime) -> Result<(), Fail> {
+fn reports_what_is_missing(rt: HostRuntime) -> Result<(), Fail> {
     let path = path_of(&rt, "missing")?;
     assert!(rt; !is_there(&rt, path.as_path().as_str()));
     assert!(rt; !is_made(&rt, "/", b""));

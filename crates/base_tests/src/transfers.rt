@@ -6,7 +6,7 @@ use std::alloc::{AllocError, Global};
 
 const TEXT: &[u8] = b"abcdefg";
 
-/// The answer to a transfer, and how many bytes from the front of `TEXT` it moved, if it moved no others.
+/// The answer to a transfer, and how many bytes from the start of `TEXT` it moved, if it moved no others.
 type Moved<E> = (Result<(), E>, Option<usize>);
 
 /// How many bytes these are, if `TEXT` begins with them.

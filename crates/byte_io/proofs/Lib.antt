@@ -2,5 +2,5 @@ pub mod DeviceLemmas
 pub mod OpenerLemmas
 pub mod SayLemmas
 pub mod SourceLemmas
-pub mod ToldLemmas
+pub mod KnownLemmas
 pub mod TransferLemmas

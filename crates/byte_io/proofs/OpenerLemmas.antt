@@ -2,7 +2,7 @@
 use Rattle.std.proofs.Common.{◌≡◌, ℕ, true, false, cond, List, [], ◌∷◌, ◌++◌, All, Option, None, Some, IfSome, Ok, Err, refl, sym, ap, ◌∙◌, append_assoc, append-nil, lit<, arith}
 use Rattle.std.specs.Str.{bytes_eq}
 use Rattle.std.proofs.lemmas.List.Elements.{All-cons, All-tail}
-use Rattle.byte_io.specs.Devices.{Coming, Told}
+use Rattle.byte_io.specs.Devices.{Coming, IfKnown}
 use Rattle.byte_io.specs.Sources.{AreShort, Ask, Content, Created, IsShort, Named, OpensAs, Sources, Standard, after, after_all, after_first, coming_of, content_of, source_of, taken_by, without_first}
 use Rattle.byte_io.specs.declared.opener.Missing.{Missing}
 
@@ -74,8 +74,8 @@ opened-here f input None R opens short h = let bad : false ≡ true = opens in (
 opened-here f input (Some c) R opens short h = h c opens short
 
 pub opened : {I : Type 0} (f : I → Option Coming) (input : I) (known left : Option Sources) (ask : Ask) (R : Option Content → Type 0)
-    → Told known left (λ s l. l ≡ after ask s) → IfSome known (λ s. OpensAs {I = I} f (taken_by ask s) (Ok input))
-    → ((c : Content) → f input ≡ Some (coming_of c) → IsShort c → R (Some c)) → Told known left (λ s l. AreShort s → (l ≡ after ask s) × R (taken_by ask s))
+    → IfKnown known left (λ s l. l ≡ after ask s) → IfSome known (λ s. OpensAs {I = I} f (taken_by ask s) (Ok input))
+    → ((c : Content) → f input ≡ Some (coming_of c) → IsShort c → R (Some c)) → IfKnown known left (λ s l. AreShort s → (l ≡ after ask s) × R (taken_by ask s))
 opened f input None left ask R takes gives h = tt
 opened f input (Some s) None ask R takes gives h = absurd takes
 opened f input (Some s) (Some l) ask R takes gives h = λ short. (takes, opened-here f input (taken_by ask s) R gives (short-taken ask s short) h)
@@ -86,8 +86,8 @@ missing-here f error None R opens h = h
 missing-here f error (Some c) R opens h = absurd opens
 
 pub missing : {I : Type 0} (f : I → Option Coming) (error : Missing) (known left : Option Sources) (ask : Ask) (R : Option Content → Type 0)
-    → Told known left (λ s l. l ≡ after ask s) → IfSome known (λ s. OpensAs {I = I} f (taken_by ask s) (Err error)) → R None
-    → Told known left (λ s l. AreShort s → (l ≡ after ask s) × R (taken_by ask s))
+    → IfKnown known left (λ s l. l ≡ after ask s) → IfSome known (λ s. OpensAs {I = I} f (taken_by ask s) (Err error)) → R None
+    → IfKnown known left (λ s l. AreShort s → (l ≡ after ask s) × R (taken_by ask s))
 missing f error None left ask R takes gives h = tt
 missing f error (Some s) None ask R takes gives h = absurd takes
 missing f error (Some s) (Some l) ask R takes gives h = λ short. (takes, missing-here f error (taken_by ask s) R gives h)

@@ -1,4 +1,4 @@
--- The first source under a name, found from the front.
+-- The first source under a name, found from the start.
 use Rattle.std.proofs.Common.{◌≡◌, ℕ, ◌+◌, ◌<◌, true, cond, List, ◌∷◌, map, length, drop, get_or, Option, sym, ap, ◌∙◌}
 use Rattle.std.specs.Str.{bytes_eq}
 use Rattle.std.proofs.lemmas.List.{drop_more, get_or_default}

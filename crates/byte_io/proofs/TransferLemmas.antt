@@ -5,40 +5,40 @@ use Rattle.std.proofs.Math.Seq.{take-append-add}
 use Rattle.std.specs.Io.KnownBytes.{Appends, Keeps}
 use Rattle.std.proofs.KnownBytes.{Appends-nil, Appends-trans, Appends-kept}
 use Rattle.byte_io.specs.declared.device.Failed.{Failed}
-use Rattle.byte_io.specs.Devices.{Faulty, Coming, EndsHere, Gives, MayFail, ReadGives, Told}
-use Rattle.byte_io.specs.Transfers.{AppendsPrefix, FaultFollows, ReadsAll, ReadsInto}
-use Rattle.byte_io.proofs.ToldLemmas.{Told-then, Told-weaker}
+use Rattle.byte_io.specs.Devices.{Faulty, Coming, EndsHere, Gives, MayFail, ReadGives, IfKnown}
+use Rattle.byte_io.specs.Transfers.{AppendsPart, FaultFollows, ReadsAll, ReadsInto}
+use Rattle.byte_io.proofs.KnownLemmas.{IfKnown-then, IfKnown-weaker}
 
 -- a fact that holds whatever is answered
 pub OnErr-any : {T E P : Type 0} (r : Result T E) → P → OnErr r P
 OnErr-any (Ok x) p = tt
 OnErr-any (Err e) p = p
 
--- a front of the piece was written, and this rest remains
-pub record WritesFront (old new : Option (List ℕ)) (piece rest : List ℕ) : Type 0 where
+-- a prefix of the piece was written, and this rest remains
+pub record WritesPrefix (old new : Option (List ℕ)) (piece rest : List ℕ) : Type 0 where
   pub done : List ℕ
   pub split : piece ≡ done ++ rest
   pub text : Appends old new done
 
 -- before the first call nothing is written
-pub WritesFront-none : (a : Option (List ℕ)) (piece : List ℕ) → WritesFront a a piece piece
-WritesFront-none a piece = record { done = []; split = refl; text = Appends-nil a }
+pub WritesPrefix-none : (a : Option (List ℕ)) (piece : List ℕ) → WritesPrefix a a piece piece
+WritesPrefix-none a piece = record { done = []; split = refl; text = Appends-nil a }
 
--- one more call takes the front of the rest
-pub WritesFront-more : {a b : Option (List ℕ)} (c : Option (List ℕ)) {piece rest : List ℕ} (n : ℕ) → WritesFront a b piece rest → Appends b c (take n rest) → WritesFront a c piece (drop n rest)
-WritesFront-more {a} {b} c {piece} {rest} n w p = record {
+-- one more call takes the prefix of the rest
+pub WritesPrefix-more : {a b : Option (List ℕ)} (c : Option (List ℕ)) {piece rest : List ℕ} (n : ℕ) → WritesPrefix a b piece rest → Appends b c (take n rest) → WritesPrefix a c piece (drop n rest)
+WritesPrefix-more {a} {b} c {piece} {rest} n w p = record {
   done = w.done ++ take n rest;
   split = w.split ∙ ap (λ l. w.done ++ l) (sym (take-append-drop n rest)) ∙ sym (append_assoc w.done (take n rest) (drop n rest));
   text = Appends-trans a b c _ _ w.text p;
 }
 
 -- with no rest the whole piece is written
-pub WritesFront-all : {a b : Option (List ℕ)} {piece rest : List ℕ} → WritesFront a b piece rest → rest ≡ [] → Appends a b piece
-WritesFront-all {a} {b} w none = subst (Appends a b) (sym (w.split ∙ ap (λ l. w.done ++ l) none ∙ append-nil w.done)) w.text
+pub WritesPrefix-all : {a b : Option (List ℕ)} {piece rest : List ℕ} → WritesPrefix a b piece rest → rest ≡ [] → Appends a b piece
+WritesPrefix-all {a} {b} w none = subst (Appends a b) (sym (w.split ∙ ap (λ l. w.done ++ l) none ∙ append-nil w.done)) w.text
 
 -- with a rest a part of the piece is written
-pub WritesFront-part : {a b : Option (List ℕ)} (c : Option (List ℕ)) {piece rest : List ℕ} → WritesFront a b piece rest → Keeps b c → 0 < length rest → AppendsPrefix a c piece
-WritesFront-part {a} {b} c {piece} {rest} w kept some = record {
+pub WritesPrefix-part : {a b : Option (List ℕ)} (c : Option (List ℕ)) {piece rest : List ℕ} → WritesPrefix a b piece rest → Keeps b c → 0 < length rest → AppendsPart a c piece
+WritesPrefix-part {a} {b} c {piece} {rest} w kept some = record {
   count = length w.done;
   fewer = omega (arith, ap length w.split, length-append w.done rest);
   text = subst (Appends a c) (sym (ap (take (length w.done)) w.split ∙ take_at w.done rest (length w.done) refl)) (Appends-kept a b c w.done w.text kept);
@@ -50,9 +50,9 @@ ReadsInto-none None xs = record { bytes = []; text = sym (append-nil xs); given 
 ReadsInto-none (Some x) xs = record { bytes = []; text = sym (append-nil xs); given = record { text = refl; ending = refl } }
 
 -- bytes that were given, and then others
-Gives-trans : (a b c : Option Coming) (bs cs : List ℕ) → Told a b (λ x y. Gives x y bs) → Told b c (λ x y. Gives x y cs) → Told a c (λ x y. Gives x y (bs ++ cs))
+Gives-trans : (a b c : Option Coming) (bs cs : List ℕ) → IfKnown a b (λ x y. Gives x y bs) → IfKnown b c (λ x y. Gives x y cs) → IfKnown a c (λ x y. Gives x y (bs ++ cs))
 Gives-trans a b c bs cs p q =
-    Told-then a b c (λ x y. Gives x y bs) (λ x y. Gives x y cs) (λ x y. Gives x y (bs ++ cs)) p q
+    IfKnown-then a b c (λ x y. Gives x y bs) (λ x y. Gives x y cs) (λ x y. Gives x y (bs ++ cs)) p q
     (λ x y z p q. record { text = p.text ∙ ap (λ l. bs ++ l) q.text ∙ sym (append_assoc bs cs z.text); ending = q.ending ∙ p.ending })
 
 -- bytes gained in two steps are gained in one
@@ -64,11 +64,11 @@ ReadsInto-more {a} {b} c {xs} {ys} {zs} r s = record {
 }
 
 -- a fact on the last known value
-pub Told-last : (P : Coming → Coming → Type 0) (a b c : Option Coming) (Q : Coming → Type 0) → Told a b P → Told b c (λ _ y. Q y) → Told a c (λ _ y. Q y)
-Told-last P a b c Q p q = Told-then a b c P (λ _ y. Q y) (λ _ y. Q y) p q (λ x y z p q. q)
+pub IfKnown-last : (P : Coming → Coming → Type 0) (a b c : Option Coming) (Q : Coming → Type 0) → IfKnown a b P → IfKnown b c (λ _ y. Q y) → IfKnown a c (λ _ y. Q y)
+IfKnown-last P a b c Q p q = IfKnown-then a b c P (λ _ y. Q y) (λ _ y. Q y) p q (λ x y z p q. q)
 
 -- all bytes were read where a clean end stands after them
-pub ReadsInto-all : (a b : Option Coming) (xs ys : List ℕ) (limit : ℕ) → ReadsInto a b xs ys → Told a b (λ _ y. EndsHere y) → length ys ≤ length xs + limit → IfSome a (ReadsAll limit xs ys)
+pub ReadsInto-all : (a b : Option Coming) (xs ys : List ℕ) (limit : ℕ) → ReadsInto a b xs ys → IfKnown a b (λ _ y. EndsHere y) → length ys ≤ length xs + limit → IfSome a (ReadsAll limit xs ys)
 ReadsInto-all None b xs ys limit r end short = tt
 ReadsInto-all (Some x) None xs ys limit r end short = absurd end
 ReadsInto-all (Some x) (Some y) xs ys limit r end short =
@@ -80,7 +80,7 @@ ReadsInto-all (Some x) (Some y) xs ys limit r end short =
     }
 
 -- a fault follows where a read failed after the bytes that were read
-pub ReadsInto-fault : (a b : Option Coming) (xs ys : List ℕ) (limit : ℕ) → ReadsInto a b xs ys → Told a b (λ _ y. MayFail y) → length ys ≤ length xs + limit → IfSome a (FaultFollows limit xs ys)
+pub ReadsInto-fault : (a b : Option Coming) (xs ys : List ℕ) (limit : ℕ) → ReadsInto a b xs ys → IfKnown a b (λ _ y. MayFail y) → length ys ≤ length xs + limit → IfSome a (FaultFollows limit xs ys)
 ReadsInto-fault None b xs ys limit r end short = tt
 ReadsInto-fault (Some x) None xs ys limit r end short = absurd end
 ReadsInto-fault (Some x) (Some y) xs ys limit r end short =
@@ -101,30 +101,30 @@ ReadsInto-many (Some x) (Some y) xs ys limit most r many =
 -- the kept part of a list, where the part after `old` was filled and only its first k bytes count
 take-filled : (old buf whole post rest : List ℕ) (start len k : ℕ) → start ≡ length old → take start whole ≡ old → k ≤ length buf → start + length buf ≤ len
     → take (start + k) (take len (take start whole ++ (buf ++ post) ++ rest)) ≡ old ++ take k buf
-take-filled old buf whole post rest start len k at front some fits =
+take-filled old buf whole post rest start len k at prefix some fits =
     take-take (start + k) len _ (omega arith)
-    ∙ ap (λ l. take (start + k) (l ++ (buf ++ post) ++ rest)) front
+    ∙ ap (λ l. take (start + k) (l ++ (buf ++ post) ++ rest)) prefix
     ∙ ap (λ l. take (start + k) l) (append_assoc old (buf ++ post) rest)
     ∙ ap (λ i. take (i + k) (old ++ ((buf ++ post) ++ rest))) at
     ∙ take-append-add old ((buf ++ post) ++ rest) k
     ∙ ap (λ l. old ++ l) (take-append-le k (buf ++ post) rest (omega (arith, length-append buf post)) ∙ take-append-le k buf post some)
 
 -- a read into the room after the text, which keeps the bytes that were read
-pub ReadsInto-read : (a b : Option Coming) (old now buf whole post rest : List ℕ) (start len n : ℕ) → Told a b (λ x y. ReadGives x y (Ok n) buf)
+pub ReadsInto-read : (a b : Option Coming) (old now buf whole post rest : List ℕ) (start len n : ℕ) → IfKnown a b (λ x y. ReadGives x y (Ok n) buf)
     → now ≡ take (start + n) (take len (take start whole ++ (buf ++ post) ++ rest)) → start ≡ length old → take start whole ≡ old → n ≤ length buf → start + length buf ≤ len
     → ReadsInto a b old now
-ReadsInto-read a b old now buf whole post rest start len n read kept at front some fits = record {
+ReadsInto-read a b old now buf whole post rest start len n read kept at prefix some fits = record {
   bytes = take n buf;
-  text = kept ∙ take-filled old buf whole post rest start len n at front some fits;
-  given = Told-weaker a b _ _ read (λ x y p. p.0);
+  text = kept ∙ take-filled old buf whole post rest start len n at prefix some fits;
+  given = IfKnown-weaker a b _ _ read (λ x y p. p.0);
 }
 
 -- a read that failed, after which nothing of the room is kept
-pub ReadsInto-failed : (a b : Option Coming) (old now buf whole post rest : List ℕ) (start len : ℕ) (e : Failed) → Told a b (λ x y. ReadGives x y (Err e) buf)
+pub ReadsInto-failed : (a b : Option Coming) (old now buf whole post rest : List ℕ) (start len : ℕ) (e : Failed) → IfKnown a b (λ x y. ReadGives x y (Err e) buf)
     → now ≡ take start (take len (take start whole ++ (buf ++ post) ++ rest)) → start ≡ length old → take start whole ≡ old → start + length buf ≤ len
     → ReadsInto a b old now
-ReadsInto-failed a b old now buf whole post rest start len e read kept at front fits = record {
+ReadsInto-failed a b old now buf whole post rest start len e read kept at prefix fits = record {
   bytes = [];
-  text = kept ∙ ap (λ i. take i (take len (take start whole ++ (buf ++ post) ++ rest))) (sym (add-zero start)) ∙ take-filled old buf whole post rest start len 0 at front (omega arith) fits;
-  given = Told-weaker a b (λ x y. ReadGives x y (Err e) buf) (λ x y. Gives x y []) read (λ x y p. record { text = ap (λ c. c.text) (sym p.1); ending = ap (λ c. c.ending) p.1 });
+  text = kept ∙ ap (λ i. take i (take len (take start whole ++ (buf ++ post) ++ rest))) (sym (add-zero start)) ∙ take-filled old buf whole post rest start len 0 at prefix (omega arith) fits;
+  given = IfKnown-weaker a b (λ x y. ReadGives x y (Err e) buf) (λ x y. Gives x y []) read (λ x y p. record { text = ap (λ c. c.text) (sym p.1); ending = ap (λ c. c.ending) p.1 });
 }

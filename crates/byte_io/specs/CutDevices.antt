@@ -28,11 +28,11 @@ pub record CutReader : Type 0 where
   pub has_failed : Bool
 
 -- the known bytes of the reader and their end; with a call that is cut none are known
-abbrev pub told_by : Cut → List ℕ → Option Coming
-told_by Never text = Some (record { text = text; ending = Clean })
-told_by AtEnd text = Some (record { text = text; ending = Faulty })
-told_by (InCalls _) text = None
-told_by Past text = None
+abbrev pub known_by : Cut → List ℕ → Option Coming
+known_by Never text = Some (record { text = text; ending = Clean })
+known_by AtEnd text = Some (record { text = text; ending = Faulty })
+known_by (InCalls _) text = None
+known_by Past text = None
 
 -- how many bytes a read gives that is not cut
 abbrev pub read_len : CutReader → ℕ → ℕ

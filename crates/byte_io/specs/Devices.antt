@@ -37,10 +37,10 @@ ReadGives old new r buf =
 
 -- a known value stays known, and the old and the new value are related by P; where the old value is unknown, nothing is
 -- said
-abbrev pub Told : {T : Type 0} → Option T → Option T → (T → T → Type 0) → Type 0
-Told None new P = ⊤
-Told (Some x) None P = ⊥
-Told (Some x) (Some y) P = P x y
+abbrev pub IfKnown : {T : Type 0} → Option T → Option T → (T → T → Type 0) → Type 0
+IfKnown None new P = ⊤
+IfKnown (Some x) None P = ⊥
+IfKnown (Some x) (Some y) P = P x y
 
 -- how many bytes a read gave
 abbrev pub count_of : Result ℕ Failed → ℕ

@@ -1,6 +1,6 @@
 pub mod CutDevices
 pub mod Devices
-pub mod Lent
+pub mod Borrowed
 pub mod Readers
 pub mod Sources
 pub mod Transfers

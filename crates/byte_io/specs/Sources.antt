@@ -66,8 +66,8 @@ abbrev pub after_all : List Ask → Sources → Sources
 after_all [] s = s
 after_all (a ∷ asks) s = after_all asks (after a s)
 
--- some of the asks were made, from their front
-pub record AsksFront (all : List Ask) (s left : Sources) : Type 0 where
+-- some of the asks were made, from their start
+pub record AsksPrefix (all : List Ask) (s left : Sources) : Type 0 where
   pub made : List Ask
   pub rest : List Ask
   pub parts : all ≡ made ++ rest
@@ -77,7 +77,7 @@ pub record AsksFront (all : List Ask) (s left : Sources) : Type 0 where
 abbrev pub ask_of : List ℕ → Ask
 ask_of operand = if bytes_eq operand (codes "-") then Standard else Named operand
 
--- the known bytes of a device that reads a content from its front
+-- the known bytes of a device that reads a content from its start
 abbrev pub coming_of : Content → Coming
 coming_of c = record { text = c.text; ending = if c.is_faulty then Faulty else Clean }
 

@@ -1,31 +1,31 @@
 -- What moves between a device and a list of bytes in many calls.
 use Rattle.std.specs.Prelude.{◌≡◌, ◌≢◌, ℕ, ◌<◌, ◌≤◌, ◌++◌, Bool, false, List, [], length, take, Option}
 use Rattle.std.specs.Io.KnownBytes.{Appends}
-use Rattle.byte_io.specs.Devices.{Coming, Clean, Faulty, Gives, Told}
+use Rattle.byte_io.specs.Devices.{Coming, Clean, Faulty, Gives, IfKnown}
 
 -- known bytes grow by a prefix of the piece that is not all of it
-pub record AppendsPrefix (old new : Option (List ℕ)) (piece : List ℕ) : Type 0 where
+pub record AppendsPart (old new : Option (List ℕ)) (piece : List ℕ) : Type 0 where
   pub count : ℕ
   pub fewer : count < length piece
   pub text : Appends old new (take count piece)
 
 -- known bytes grew by a prefix of the text, which may be none or all of it
-pub record AppendsFront (old new : Option (List ℕ)) (text : List ℕ) : Type 0 where
-  pub front : List ℕ
+pub record AppendsPrefix (old new : Option (List ℕ)) (text : List ℕ) : Type 0 where
+  pub prefix : List ℕ
   pub rest : List ℕ
-  pub parts : text ≡ front ++ rest
-  pub grown : Appends old new front
+  pub parts : text ≡ prefix ++ rest
+  pub grown : Appends old new prefix
 
 -- and by all of it unless a write failed
 pub record Says (has_failed : Bool) (old new : Option (List ℕ)) (text : List ℕ) : Type 0 where
-  pub said : AppendsFront old new text
+  pub said : AppendsPrefix old new text
   pub whole : has_failed ≡ false → said.rest ≡ []
 
 -- a text grows by bytes that a reader gave, and the reader gave no others
 pub record ReadsInto (old new : Option Coming) (before after : List ℕ) : Type 0 where
   pub bytes : List ℕ
   pub text : after ≡ before ++ bytes
-  pub given : Told old new (λ x y. Gives x y bytes)
+  pub given : IfKnown old new (λ x y. Gives x y bytes)
 
 -- all bytes to come were read, there are no more than the limit, and no fault follows them
 pub record ReadsAll (limit : ℕ) (before after : List ℕ) (c : Coming) : Type 0 where

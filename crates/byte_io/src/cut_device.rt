@@ -1,8 +1,8 @@
 //! The devices of the tests, over borrowed bytes, which fail where a test says.
 ghost use Rattle.std.specs.Prelude.{◌≡◌, ◌+◌, ◌-◌, ◌<◌, ◌≤◌, ◌||◌, [], length, take, false, IfOk, is_err, min};
 ghost use Rattle.std.specs.Io.KnownBytes.{WriteAppends};
-ghost use Rattle.byte_io.specs.CutDevices.{after_read, after_write, cut_after, fails_now, read_answer, told_by, write_answer};
-ghost use Rattle.byte_io.specs.Devices.{ReadGives, Told, count_of};
+ghost use Rattle.byte_io.specs.CutDevices.{after_read, after_write, cut_after, fails_now, read_answer, known_by, write_answer};
+ghost use Rattle.byte_io.specs.Devices.{ReadGives, IfKnown, count_of};
 
 use crate::device::{ByteIn, ByteOut, Failed};
 use std::marker::Model;
@@ -153,7 +153,7 @@ impl<'a> CutIn<'a> {
 }
 
 impl ByteIn for CutIn<'_> {
-    ghost coming = { λ d. told_by d.cut d.text };
+    ghost coming = { λ d. known_by d.cut d.text };
 
     ghost given = { λ d. d.given };
 
@@ -161,8 +161,8 @@ impl ByteIn for CutIn<'_> {
 
     fn read_some(&mut self, buf: &mut [u8]) -> Result<usize, Failed>
         ensures within { IfOk result (λ n. n ≤ length buf.new) }
-        ensures bytes { Told (told_by self.old.cut self.old.text)
-            (told_by self.new.cut self.new.text) (λ old new. ReadGives old new result buf.new) }
+        ensures bytes { IfKnown (known_by self.old.cut self.old.text)
+            (known_by self.new.cut self.new.text) (λ old new. ReadGives old new result buf.new) }
         ensures count { self.new.given ≡ self.old.given + count_of result }
         ensures flag { self.new.has_failed ≡ (self.old.has_failed || is_err result) }
 

@@ -1,7 +1,7 @@
 //! Devices: what bytes are read from and written to, and the flag of a failed call.
 ghost use Rattle.std.specs.Prelude.{◌≡◌, ℕ, ◌+◌, ◌<◌, ◌≤◌, ◌||◌, List, length, Bool, Option, IfOk, is_err};
 ghost use Rattle.std.specs.Io.KnownBytes.{WriteAppends};
-ghost use Rattle.byte_io.specs.Devices.{Coming, ReadGives, Told, count_of};
+ghost use Rattle.byte_io.specs.Devices.{Coming, ReadGives, IfKnown, count_of};
 
 /// A call of a device that failed, for a reason that is not given: the message that follows names only the file.
 #[derive(Clone, Copy, Debug, PartialEq, Eq)]
@@ -18,11 +18,11 @@ pub trait ByteIn {
     /// Whether a call has failed.
     ghost has_failed: { Self → Bool };
 
-    /// Reads some of the next bytes into the front of the buffer, and returns how many. 0 into a nonempty buffer is the
+    /// Reads some of the next bytes into the start of the buffer, and returns how many. 0 into a nonempty buffer is the
     /// end.
     fn read_some(&mut self, buf: &mut [u8]) -> Result<usize, Failed>
         ensures within { IfOk result (λ n. n ≤ length buf.new) }
-        ensures bytes { Told (coming self.old) (coming self.new)
+        ensures bytes { IfKnown (coming self.old) (coming self.new)
             (λ old new. ReadGives old new result buf.new) }
         ensures count { given self.new ≡ given self.old + count_of result }
         ensures flag { has_failed self.new ≡ (has_failed self.old || is_err result) };
@@ -36,7 +36,7 @@ pub trait ByteOut {
     /// Whether a call has failed.
     ghost has_failed: { Self → Bool };
 
-    /// Writes some bytes from the front of the piece, and returns how many. To take nothing of a nonempty piece is a
+    /// Writes some bytes from the start of the piece, and returns how many. To take nothing of a nonempty piece is a
     /// failure.
     fn write_some(&mut self, piece: &[u8]) -> Result<usize, Failed>
         ensures within { IfOk result (λ n. n ≤ length piece.now) }

@@ -1,6 +1,6 @@
 //! Files: what a program reads, and new files that it writes.
 ghost use Rattle.std.specs.Prelude.{◌≡◌, IfOk, IfSome, false};
-ghost use Rattle.byte_io.specs.Devices.{Told};
+ghost use Rattle.byte_io.specs.Devices.{IfKnown};
 ghost use Rattle.byte_io.specs.Sources.{Created, CreatesAs, after, can_create};
 
 use crate::device::ByteOut;
@@ -19,7 +19,7 @@ pub trait Files: Opener {
     /// # Errors
     /// `Missing` where none can be made.
     fn create_named(&mut self, name: &str) -> Result<Self::Output, Missing>
-        ensures takes { Told (Self.sources self.old) (Self.sources self.new) (λ old new. new ≡ after (Created name.now) old) }
+        ensures takes { IfKnown (Self.sources self.old) (Self.sources self.new) (λ old new. new ≡ after (Created name.now) old) }
         ensures gives { IfSome (Self.sources self.old) (λ s. CreatesAs Self.Output.written (can_create name.now s.creatable) result) }
         ensures fresh { IfOk result (λ output. Self.Output.has_failed output ≡ false) };
 }

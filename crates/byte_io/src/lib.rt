@@ -1,20 +1,20 @@
 //! The devices that bytes come from and go to.
 #![tactic(auto)]
 
+mod borrowed_files;
 mod cut_device;
 mod device;
 mod files;
-mod lent_files;
 mod limits;
 mod opener;
 mod std_device;
 mod system_files;
 mod transfer;
 
+pub use borrowed_files::BorrowedFiles;
 pub use cut_device::{CutIn, CutOut};
 pub use device::{ByteIn, ByteOut, Failed};
 pub use files::Files;
-pub use lent_files::LentFiles;
 pub use limits::{MAX_TURNS, turns_law};
 pub use opener::{Missing, Opener, open_operand};
 pub use std_device::{FileOrInput, FromRead, ToWrite};

@@ -1,6 +1,6 @@
 //! Openers: what a program's input comes from.
 ghost use Rattle.std.specs.Prelude.{◌≡◌, IfOk, IfSome, Some, false};
-ghost use Rattle.byte_io.specs.Devices.{Told};
+ghost use Rattle.byte_io.specs.Devices.{IfKnown};
 ghost use Rattle.byte_io.specs.Sources.{Named, OpensAs, Standard, after, ask_of, coming_of, content_of, source_of, taken_by};
 
 use crate::device::ByteIn;
@@ -26,13 +26,13 @@ pub trait Opener {
     /// # Errors
     /// `Missing` where it cannot be opened.
     fn open_named(&mut self, name: &str) -> Result<Self::Input, Missing>
-        ensures takes { Told (sources self.old) (sources self.new) (λ old new. new ≡ after (Named name.now) old) }
+        ensures takes { IfKnown (sources self.old) (sources self.new) (λ old new. new ≡ after (Named name.now) old) }
         ensures gives { IfSome (sources self.old) (λ s. OpensAs Self.Input.coming (source_of name.now s.named) result) }
         ensures fresh { IfOk result (λ input. Self.Input.has_failed input ≡ false) };
 
     /// Standard input, asked for anew: its next source.
     fn standard_input(&mut self) -> Self::Input
-        ensures takes { Told (sources self.old) (sources self.new) (λ old new. new ≡ after Standard old) }
+        ensures takes { IfKnown (sources self.old) (sources self.new) (λ old new. new ≡ after Standard old) }
         ensures gives { IfSome (sources self.old) (λ s. Self.Input.coming result ≡ Some (coming_of (content_of s.standard))) }
         ensures fresh { Self.Input.has_failed result ≡ false };
 }
@@ -42,7 +42,7 @@ pub trait Opener {
 /// # Errors
 /// `Missing` where the file cannot be opened.
 pub fn open_operand<O: Opener>(opener: &mut O, operand: &str) -> Result<O::Input, Missing>
-    ensures takes { Told (O.sources opener.old) (O.sources opener.new) (λ old new. new ≡ after (ask_of operand.now) old) }
+    ensures takes { IfKnown (O.sources opener.old) (O.sources opener.new) (λ old new. new ≡ after (ask_of operand.now) old) }
     ensures gives { IfSome (O.sources opener.old) (λ s. OpensAs O.Input.coming (taken_by (ask_of operand.now) s) result) }
     ensures fresh { IfOk result (λ input. O.Input.has_failed input ≡ false) }
 {

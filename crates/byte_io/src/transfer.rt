@@ -1,8 +1,8 @@
 //! What moves between a device and a list of bytes in many calls.
 ghost use Rattle.std.specs.Prelude.{◌≡◌, ◌≢◌, ◌+◌, ◌^◌, ◌<◌, ◌≤◌, ◌||◌, ◌⊎◌, vec_len, length, IsTrue, IfOk, IfSome, OnOk, OnErr, is_err};
 ghost use Rattle.std.specs.Io.KnownBytes.{Appends};
-ghost use Rattle.byte_io.specs.Devices.{EndsHere, MayFail, Told};
-ghost use Rattle.byte_io.specs.Transfers.{AppendsPrefix, FaultFollows, ReadsAll, ReadsInto, Says};
+ghost use Rattle.byte_io.specs.Devices.{EndsHere, MayFail, IfKnown};
+ghost use Rattle.byte_io.specs.Transfers.{AppendsPart, FaultFollows, ReadsAll, ReadsInto, Says};
 
 use crate::device::{ByteIn, ByteOut, Failed};
 use crate::limits::MAX_TURNS;
@@ -34,10 +34,10 @@ impl From<AllocError> for ReadError {
 
 /// Writes the whole piece, in as many calls as it takes.
 ///
-/// After an `Err` some of its bytes may be written, from its front, and never all.
+/// After an `Err` some of its bytes may be written, from its start, and never all.
 pub fn write_all<W: ByteOut>(out: &mut W, piece: &[u8]) -> Result<(), Failed>
     ensures ok { OnOk result (Appends (W.written out.old) (W.written out.new) piece.now) }
-    ensures err { OnErr result (AppendsPrefix (W.written out.old) (W.written out.new) piece.now) }
+    ensures err { OnErr result (AppendsPart (W.written out.old) (W.written out.new) piece.now) }
     ensures flag { W.has_failed out.new ≡ (W.has_failed out.old || is_err result) }
 {
     let mut rest = piece;
@@ -121,10 +121,10 @@ fn read_chunk<R: ByteIn, A: Allocator>(
     ensures count { R.given input.new + vec_len text.old ≡ R.given input.old + vec_len text.new }
     ensures ok { IfOk result (λ n. (vec_len text.new ≡ vec_len text.old + n) × (n ≤ most)) }
     ensures end { result ≡ Ok 0
-        → Told (R.coming input.old) (R.coming input.new) (λ _ c. EndsHere c) }
+        → IfKnown (R.coming input.old) (R.coming input.new) (λ _ c. EndsHere c) }
     ensures err { OnErr result (text.new.items ≡ text.old.items) }
     ensures failed { result ≡ Err ReadError.Failed
-        → Told (R.coming input.old) (R.coming input.new) (λ _ c. MayFail c) }
+        → IfKnown (R.coming input.old) (R.coming input.new) (λ _ c. MayFail c) }
     ensures fault { result ≡ Err ReadError.Failed → IsTrue (R.has_failed input.new) }
     ensures not_long { result ≢ Err ReadError.TooLong }
     ensures flag { result ≢ Err ReadError.Failed

@@ -6,15 +6,15 @@ use Rattle.std.proofs.lemmas.Nat.Bits.{bit_at_or, bit_at-lt}
 use Rattle.nib_mask.specs.declared.masks.Masks.{Masks}
 use Rattle.nib_mask.specs.Tables.{table_value}
 use Rattle.nib_mask.specs.Candidates.{IsCandidate, filter_byte_at}
-use Rattle.byte_lanes.specs.Lanes.{TellsBits}
+use Rattle.byte_lanes.specs.Lanes.{IsMaskOf}
 use Rattle.byte_lanes.specs.Filtered.{IsMarked}
 use Rattle.byte_lanes.specs.PlacesAfter.{NoneWithin}
 
 module _ (P : ℕ → Type 0) where
   -- two stretches without places, one after the other
   pub quiet_on : (from mid to : ℕ) → NoneWithin P from mid → NoneWithin P mid to → NoneWithin P from to
-  quiet_on from mid to front back end low high holds =
-      ⊎_elim (λ after. back end after high holds) (λ before. front end low before holds) (cases_lt mid end)
+  quiet_on from mid to prefix back end low high holds =
+      ⊎_elim (λ after. back end after high holds) (λ before. prefix end low before holds) (cases_lt mid end)
 
   -- a number of positions in a row at which it does not hold
   pub quiet_in_row : (from count : ℕ) → ((k : ℕ) → k < count → ¬ P (from + 1 + k)) → NoneWithin P from (from + count)
@@ -41,25 +41,25 @@ candidate_is_marked masks text place end at within =
     )
 
 -- the marks of 64 positions of a text are the marks of the ends three positions later
-pub marks_of_ends : (masks : Masks) (text : List ℕ) (place first mask : ℕ) → first ≡ place + 3 → first + 63 ≤ length text → TellsBits (IsMarked masks text) place 64 mask
-    → TellsBits (IsCandidate masks text) first 64 mask
-marks_of_ends masks text place first mask start within told k =
+pub marks_of_ends : (masks : Masks) (text : List ℕ) (place first mask : ℕ) → first ≡ place + 3 → first + 63 ≤ length text → IsMaskOf (IsMarked masks text) place 64 mask
+    → IsMaskOf (IsCandidate masks text) first 64 mask
+marks_of_ends masks text place first mask start within known k =
     let at : (k < 64) → IsMarked masks text (place + k) ↔ IsCandidate masks text (first + k) =
     λ l. candidate_is_marked masks text (place + k) (first + k) (omega arith) (omega arith) in (
-      λ s. let t = (told k).0 s in (t.0, (at t.0).0 t.1),
-      λ h. (told k).1 (h.0, (at h.0).1 h.1),
+      λ s. let t = (known k).0 s in (t.0, (at t.0).0 t.1),
+      λ h. (known k).1 (h.0, (at h.0).1 h.1),
     )
 
 -- the bits that one of two masks has stand for the ends that one of two tests passes
-pub either_told : (P Q : ℕ → Type 0) (first one other : ℕ) → TellsBits P first 64 one → TellsBits Q first 64 other → TellsBits (λ end. P end ⊎ Q end) first 64 (bit_or one other)
-either_told P Q first one other of_one of_other k =
+pub either_set : (P Q : ℕ → Type 0) (first one other : ℕ) → IsMaskOf P first 64 one → IsMaskOf Q first 64 other → IsMaskOf (λ end. P end ⊎ Q end) first 64 (bit_or one other)
+either_set P Q first one other of_one of_other k =
     let joined = bit_at_or one other k in
     let small = bit_at-lt one k in
     let small_other = bit_at-lt other k in (
       λ s.
           elim (cases_eq (bit_at one k) 1) [
-            | inl set ↦ let told = (of_one k).0 set in (told.0, inl told.1)
-            | inr clear ↦ let told = (of_other k).0 (omega arith) in (told.0, inr told.1)
+            | inl set ↦ let known = (of_one k).0 set in (known.0, inl known.1)
+            | inr clear ↦ let known = (of_other k).0 (omega arith) in (known.0, inr known.1)
           ],
       λ (l, holds).
           elim holds [

@@ -80,9 +80,9 @@ bit_of_nonzero w v n k long few =
     let same = bitmask_splat w test v n 0 long few in
     let bit : bit_at (mask_l (map (λ x. test x 0) v)) k ≡ cond (not (eqb (get_or v k 0) 0)) 1 0 =
     bit_mask_l (map (λ x. test x 0) v) k ∙ ap (λ b. cond b 1 0) (get_or-map (λ x. test x 0) v k 0) in
-    let told = set_if_not_zero (get_or v k 0) (eqb (get_or v k 0) 0) refl in
+    let known = set_if_not_zero (get_or v k 0) (eqb (get_or v k 0) 0) refl in
     let whole = ap (λ m. bit_at m k) same ∙ bit in
-    (λ h. told.0 (sym whole ∙ h), λ h. whole ∙ told.1 h)
+    (λ h. known.0 (sym whole ∙ h), λ h. whole ∙ known.1 h)
 
 -- where a lane is not zero, neither is the mask
 pub some_nonzero : (v : List ℕ) (n k : ℕ) → length v ≡ n → n ≤ 64 → get_or v k 0 ≢ 0
@@ -130,17 +130,17 @@ bit_of_equal v set byte k long =
           let test : get_or tests k false ≡ eqb (bit_or (get_or v k 0) set) byte =
           get_or-zip2 eqb both (replicate 64 byte) k 0 0 false (omega arith) l ∙ (λ i. eqb (lane i) (get_or-replicate 64 k byte 0 l i)) in
           let whole = bit ∙ ap (λ b. cond b 1 0) test in
-          let told = set_if_equal (bit_or (get_or v k 0) set) byte _ refl in
-          (λ h. (l, told.0 (sym whole ∙ h)), λ h. whole ∙ told.1 h.1)
+          let known = set_if_equal (bit_or (get_or v k 0) set) byte _ refl in
+          (λ h. (l, known.0 (sym whole ∙ h)), λ h. whole ∙ known.1 h.1)
       | inr past ↦
           let none : bit_at (mask_l tests) k ≡ 0 = bit ∙ ap (λ b. cond b 1 0) (get_or_past tests k false (omega arith)) in
           (λ h. absurd (omega (arith, none, h)), λ h. absurd (omega (arith, h.0)))
     ]
 
 -- the bits of the mask, by the lanes
-pub told_equal : (v : List ℕ) (set byte k : ℕ) → length v ≡ 64
+pub set_if_same : (v : List ℕ) (set byte k : ℕ) → length v ≡ 64
     → (bit_at (mask_l (map (top 7) (zip2 (λ m n. cond (eqb m n) 255 0) (zip2 bit_or v (replicate 64 set)) (replicate 64 byte))) % 2 ^ 64) k ≡ 1) ↔ ((k < 64) × (bit_or (get_or v k 0) set ≡ byte))
-told_equal v set byte k long =
+set_if_same v set byte k long =
     let same = ap (λ m. bit_at m k) (equal_mask v set byte long) in
-    let told = bit_of_equal v set byte k long in
-    (λ h. told.0 (sym same ∙ h), λ h. same ∙ told.1 h)
+    let known = bit_of_equal v set byte k long in
+    (λ h. known.0 (sym same ∙ h), λ h. same ∙ known.1 h)

@@ -16,13 +16,13 @@ abbrev pub HoldsTwice : List ℕ → List ℕ → Type 0
 HoldsTwice vector table = HasLanes vector (λ k. slice_index table (k % 16))
 
 -- lane k is 255 if P holds at place + k
-abbrev pub TellsLanes : (ℕ → Type 0) → ℕ → List ℕ → Type 0
-TellsLanes P place lanes = (k : ℕ) → k < 32 → P (place + k) → slice_index lanes k ≡ 255
+abbrev pub SetsLanes : (ℕ → Type 0) → ℕ → List ℕ → Type 0
+SetsLanes P place lanes = (k : ℕ) → k < 32 → P (place + k) → slice_index lanes k ≡ 255
 
 -- a lane that is not zero gives the answer
 abbrev pub SeesLanes : List ℕ → Type 0 → Type 0
 SeesLanes lanes answer = (k : ℕ) → k < 32 → slice_index lanes k ≢ 0 → answer
 
 -- bit k of the mask is set if and only if P holds at place + k, for k below count, and no other bit is
-abbrev pub TellsBits : (ℕ → Type 0) → ℕ → ℕ → ℕ → Type 0
-TellsBits P place count mask = (k : ℕ) → (bit_at mask k ≡ 1) ↔ ((k < count) × P (place + k))
+abbrev pub IsMaskOf : (ℕ → Type 0) → ℕ → ℕ → ℕ → Type 0
+IsMaskOf P place count mask = (k : ℕ) → (bit_at mask k ≡ 1) ↔ ((k < count) × P (place + k))

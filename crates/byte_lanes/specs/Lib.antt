@@ -2,7 +2,7 @@ pub mod Bits
 pub mod Entries
 pub mod Filtered
 pub mod Fours
-pub mod Fronts
+pub mod Prefixes
 pub mod Lanes
 pub mod PlacesAfter
 pub mod WideTables

@@ -2,7 +2,7 @@
 ghost use Rattle.std.specs.Prelude.{◌≡◌, ◌+◌, ◌≤◌, length};
 ghost use Rattle.nib_mask.specs.Candidates.{IsCandidate};
 ghost use Rattle.nib_mask.specs.Halves.{widened};
-ghost use Rattle.byte_lanes.specs.Lanes.{TellsBits};
+ghost use Rattle.byte_lanes.specs.Lanes.{IsMaskOf};
 
 use crate::end_test::EndTest;
 use crate::nibbles::Nibbles;
@@ -40,7 +40,7 @@ impl<'a> BlockFilter<'a> {
     pub fn passing(&self, text: &[u8], first: usize) -> u64
         requires after { 3 ≤ first }
         requires within { first + 63 ≤ length text.now }
-        ensures { TellsBits (IsCandidate self.now text.now) first 64 result }
+        ensures { IsMaskOf (IsCandidate self.now text.now) first 64 result }
     {
         self.nibbles.marks(text, first)
     }

@@ -1,7 +1,7 @@
 //! Tests of the positions of a text at which an occurrence may end, 64 of them at a time.
 ghost use Rattle.std.specs.Prelude.{◌≡◌, ℕ, ◌+◌, ◌<◌, ◌≤◌, ◌↔◌, IsTrue, List, length};
-ghost use Rattle.byte_lanes.specs.Fronts.{IsFrontOf};
-ghost use Rattle.byte_lanes.specs.Lanes.{TellsBits};
+ghost use Rattle.byte_lanes.specs.Prefixes.{IsPrefixOf};
+ghost use Rattle.byte_lanes.specs.Lanes.{IsMaskOf};
 
 use crate::rare_look::Turn;
 
@@ -25,7 +25,7 @@ pub trait EndTest {
 
     /// Bytes after an end do not matter: a longer text that begins with this one has the same candidates up to its end.
     fn local_law(&self, text: &[u8], longer: &[u8])
-        requires { IsFrontOf text.now longer.now }
+        requires { IsPrefixOf text.now longer.now }
         ensures { (end : ℕ) → end ≤ length text.now → candidate self.now text.now end ↔ candidate self.now longer.now end };
 
     /// Whether an occurrence may end at one of 128 positions. It returns false only if none can; a test that has no
@@ -46,5 +46,5 @@ pub trait EndTest {
     fn marks(&self, text: &[u8], first: usize) -> u64
         requires after { reaches self.now ≤ first }
         requires within { first + 63 ≤ length text.now }
-        ensures { TellsBits (candidate self.now text.now) first 64 result };
+        ensures { IsMaskOf (candidate self.now text.now) first 64 result };
 }

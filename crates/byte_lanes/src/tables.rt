@@ -1,6 +1,6 @@
 //! The tables of a filter as vectors, and their values for 32 or 64 positions.
 ghost use Rattle.std.specs.Prelude.{ℕ, ◌+◌, ◌/◌, ◌%◌, ◌≤◌, List, length, slice_index, bit_and};
-ghost use Rattle.byte_lanes.specs.Lanes.{HasLanes, HoldsTwice, TellsBits};
+ghost use Rattle.byte_lanes.specs.Lanes.{HasLanes, HoldsTwice, IsMaskOf};
 ghost use Rattle.nib_mask.specs.declared.masks.Masks.{Masks};
 ghost use Rattle.nib_mask.specs.Tables.{table_value};
 
@@ -48,20 +48,20 @@ impl Tables {
         ensures { (masks : Masks) → AreTablesOf masks self.now → HasLanes result (λ k. table_value masks
             (slice_index third k) (slice_index second k) (slice_index last k)) }
     {
-        let front = both(
+        let prefix = both(
             entries(self.third_low, self.third_high, third),
             entries(self.second_low, self.second_high, second),
         );
-        both(front, entries(self.last_low, self.last_high, last))
+        both(prefix, entries(self.last_low, self.last_high, last))
     }
 
     /// The positions among 64 at which the filter byte of the three bytes from there on is not zero.
     #[inline(always)]
     pub(crate) fn marks(&self, text: &[u8], at: usize) -> u64
         requires { at + 66 ≤ length text.now }
-        ensures { (masks : Masks) → AreTablesOf masks self.now → TellsBits (IsMarked masks text.now) at 64 result }
+        ensures { (masks : Masks) → AreTablesOf masks self.now → IsMaskOf (IsMarked masks text.now) at 64 result }
     {
-        let front = self.filter(load(text, at), load(text, at + 1), load(text, at + 2));
+        let prefix = self.filter(load(text, at), load(text, at + 1), load(text, at + 2));
         let back = self.filter(
             load(text, at + 32),
             load(text, at + 33),
@@ -69,10 +69,10 @@ impl Tables {
         );
         // To see so that no lane is set costs less than 64 bits. Measured: a text without matches is searched 1.08
         // times as fast, a text with a candidate in every second block at most a twentieth slower.
-        if !any_lane(either(front, back)) {
+        if !any_lane(either(prefix, back)) {
             return 0;
         }
-        nonzero_bits(front, back)
+        nonzero_bits(prefix, back)
     }
 }
 

@@ -11,32 +11,32 @@ use Rattle.std.proofs.lemmas.List.Edits.{length-between}
 use Rattle.std.proofs.lemmas.Slice.{between_is}
 use Rattle.std.proofs.lemmas.Option.{slice_get_within, unwrap_or-slice_get}
 use Rattle.lit_base.specs.declared.fold.Fold.{Fold}
-use Rattle.list_index.specs.declared.suffixes.marks.TheConstants.{HASH_BITS}
+use Rattle.list_index.specs.declared.suffixes.hash_bits.TheConstants.{HASH_BITS}
 use Rattle.lit_base.specs.Literals.{Literals, literal_at}
-use Rattle.list_index.specs.Marks.{IsMarked}
+use Rattle.list_index.specs.HashBits.{IsMarked}
 use Rattle.lit_base.specs.Occurrences.{Occurs}
 use Rattle.list_index.specs.Suffixes.{case_bits, hash_of, last_bits, spelled, suffix_key}
 use Rattle.list_index.proofs.SuffixLemmas.{AreBytes, drop-range, key-occurs_inside, masked, range_bytes, spelled_fits, zeros_bytes}
 use Rattle.factor_search.specs.declared.widths.TheConstants.{WIDTH}
 use Rattle.factor_search.specs.Widths.{IsLeastWidth, width_at}
-use Rattle.factor_search.specs.Factors.{AreMarks, AreMarkedByFactors, IsMarkedByFactor, Factored, offset_at}
+use Rattle.factor_search.specs.Factors.{AreHashBits, AreMarkedByFactors, IsMarkedByFactor, Factored, offset_at}
 
 -- the literal that occurs is the one at its place
 pub literal_is : (l : Literals) (text : List ℕ) (place end : ℕ) (occurs : Occurs l text place end) → occurs.literal ≡ literal_at l place
 literal_is l text place end occurs = sym (ap (λ o. unwrap_or o []) occurs.stands) ∙ unwrap_or-slice_get l.texts place []
 
 -- where a literal ends, the bytes of the text at its offset have the hash bit of its factor there, and there are enough of them
-module _ (l : Literals) (marks text : List ℕ) (place at width offset : ℕ) (is : IsMarkedByFactor l marks place width offset) (occurs : Occurs l text place (at + offset)) where
+module _ (l : Literals) (hash_bits text : List ℕ) (place at width offset : ℕ) (is : IsMarkedByFactor l hash_bits place width offset) (occurs : Occurs l text place (at + offset)) where
   pub factor_begins : width ≤ at
   factor_begins = omega (arith, is.wide, occurs.begins, ap (λ (t : List ℕ). length t) (literal_is l text place (at + offset) occurs))
 
-  pub factor_marked : AreBytes text → width ≤ 8 → IsMarked marks (hash_of HASH_BITS (suffix_key l.folding text at width)) offset
+  pub factor_marked : AreBytes text → width ≤ 8 → IsMarked hash_bits (hash_of HASH_BITS (suffix_key l.folding text at width)) offset
   factor_marked bytes narrow =
       let before : at + offset - offset ≡ at = omega arith in
       let key : suffix_key l.folding text at width ≡ suffix_key l.folding (literal_at l place) (length (literal_at l place) - offset) width =
       ap (λ n. suffix_key l.folding text n width) (sym before)
       ∙ key-occurs_inside l text place (at + offset) width offset bytes narrow is.wide occurs in
-      subst (λ k. IsMarked marks (hash_of HASH_BITS k) offset) (sym key) is.marked
+      subst (λ k. IsMarked hash_bits (hash_of HASH_BITS k) offset) (sym key) is.marked
 
 -- the key of the bytes before a position, four of which were read as a word after zeros
 pub word_key : (fold : Fold) (text : List ℕ) (at width word bits : ℕ) → AreBytes text → width ≤ 4 → 4 ≤ at → at ≤ length text → word ≡ spelled (replicate 4 0 ++ slice_range text (at - 4) at) → bits ≡ case_bits fold
@@ -69,23 +69,23 @@ pub marked_right : (a b back : ℕ) → bit_at b back ≡ 1 → bit_at (bit_or a
 marked_right a b back marked = omega (arith, bit_at_or a b back, marked, bit_at-lt a back)
 
 -- the hash bits of a position are complete if they include the bits for the bytes before it by all widths from the least on
-pub marks_are : (w : Factored) (least : ℕ) (marks text : List ℕ) (at result : ℕ) → IsLeastWidth w.literals least → AreMarkedByFactors w.literals w.offsets marks (length w.literals.texts) → AreBytes text
-    → ((width back : ℕ) → least ≤ width → width ≤ WIDTH → width ≤ at → IsMarked marks (hash_of HASH_BITS (suffix_key w.literals.folding text at width)) back → bit_at result back ≡ 1)
-    → AreMarks w text at result
-marks_are w least marks text at result fits are bytes told place occurs =
+pub hash_bits_are : (w : Factored) (least : ℕ) (hash_bits text : List ℕ) (at result : ℕ) → IsLeastWidth w.literals least → AreMarkedByFactors w.literals w.offsets hash_bits (length w.literals.texts) → AreBytes text
+    → ((width back : ℕ) → least ≤ width → width ≤ WIDTH → width ≤ at → IsMarked hash_bits (hash_of HASH_BITS (suffix_key w.literals.folding text at width)) back → bit_at result back ≡ 1)
+    → AreHashBits w text at result
+hash_bits_are w least hash_bits text at result fits are bytes known place occurs =
     let l = w.literals in
     let there = slice_get_within l.texts place occurs.literal occurs.stands in
     let is = are.marked place there in
     let narrow : width_at l place ≤ WIDTH = omega arith in
-    told (width_at l place) (offset_at w place) (fits.least place there) narrow
-    (factor_begins l marks text place at (width_at l place) (offset_at w place) is occurs)
-    (factor_marked l marks text place at (width_at l place) (offset_at w place) is occurs bytes (omega (arith, narrow)))
+    known (width_at l place) (offset_at w place) (fits.least place there) narrow
+    (factor_begins l hash_bits text place at (width_at l place) (offset_at w place) is occurs)
+    (factor_marked l hash_bits text place at (width_at l place) (offset_at w place) is occurs bytes (omega (arith, narrow)))
 
 -- a hash bit that was found by a key is set
-pub read_mark : (marks : List ℕ) (key other found back : ℕ) → found ≡ slice_index marks (hash_of HASH_BITS key) → key ≡ other → IsMarked marks (hash_of HASH_BITS other) back → bit_at found back ≡ 1
-read_mark marks key other found back is same marked = ap (λ m. bit_at m back) (is ∙ ap (λ k. slice_index marks (hash_of HASH_BITS k)) same) ∙ marked
+pub read_hash_bits : (hash_bits : List ℕ) (key other found back : ℕ) → found ≡ slice_index hash_bits (hash_of HASH_BITS key) → key ≡ other → IsMarked hash_bits (hash_of HASH_BITS other) back → bit_at found back ≡ 1
+read_hash_bits hash_bits key other found back is same marked = ap (λ m. bit_at m back) (is ∙ ap (λ k. slice_index hash_bits (hash_of HASH_BITS k)) same) ∙ marked
 
 -- and so is one found by the last bytes of a word
-pub read_width : (marks : List ℕ) (word bits n width found back : ℕ) → found ≡ slice_index marks (hash_of HASH_BITS (bit_or (bit_and word (last_bits n)) bits)) → n ≡ width
-    → IsMarked marks (hash_of HASH_BITS (bit_or (bit_and word (last_bits width)) bits)) back → bit_at found back ≡ 1
-read_width marks word bits n width found back is same marked = read_mark marks _ _ found back is (ap (λ k. bit_or (bit_and word (last_bits k)) bits) same) marked
+pub read_width : (hash_bits : List ℕ) (word bits n width found back : ℕ) → found ≡ slice_index hash_bits (hash_of HASH_BITS (bit_or (bit_and word (last_bits n)) bits)) → n ≡ width
+    → IsMarked hash_bits (hash_of HASH_BITS (bit_or (bit_and word (last_bits width)) bits)) back → bit_at found back ≡ 1
+read_width hash_bits word bits n width found back is same marked = read_hash_bits hash_bits _ _ found back is (ap (λ k. bit_or (bit_and word (last_bits k)) bits) same) marked

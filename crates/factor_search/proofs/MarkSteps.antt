@@ -39,20 +39,20 @@ module _ (l : Literals) (text : List ℕ) (seen count back rest : ℕ) (marked :
       (omega (arith, after), shifted_bit rest low (other - (back + low + 1)) ∙ ap (bit_at rest) place ∙ (marked other near here).1)
 
 -- bits are combined with others that are shifted above them, in a word
-module _ (marks more at back : ℕ) (short : back < 64) where
-  abbrev joined_marks : ℕ
-  joined_marks = bit_or marks (more * 2 ^ at % 2 ^ 64)
+module _ (hash_bits more at back : ℕ) (short : back < 64) where
+  abbrev joined_hash_bits : ℕ
+  joined_hash_bits = bit_or hash_bits (more * 2 ^ at % 2 ^ 64)
 
   -- the bits below stay
-  pub marked_below : bit_at marks back ≡ 1 → bit_at joined_marks back ≡ 1
-  marked_below set = omega (arith, bit_at_or marks (more * 2 ^ at % 2 ^ 64) back, set, bit_at-lt (more * 2 ^ at % 2 ^ 64) back)
+  pub marked_below : bit_at hash_bits back ≡ 1 → bit_at joined_hash_bits back ≡ 1
+  marked_below set = omega (arith, bit_at_or hash_bits (more * 2 ^ at % 2 ^ 64) back, set, bit_at-lt (more * 2 ^ at % 2 ^ 64) back)
 
   -- and each bit above is shifted up
-  pub marked_above : at ≤ back → bit_at more (back - at) ≡ 1 → bit_at joined_marks back ≡ 1
+  pub marked_above : at ≤ back → bit_at more (back - at) ≡ 1 → bit_at joined_hash_bits back ≡ 1
   marked_above above set =
       let shifted : ℕ = more * 2 ^ at in
       let whole : shifted / 2 ^ 64 * 2 ^ 64 + shifted % 2 ^ 64 ≡ shifted = omega arith in
       let plain : shifted + 0 ≡ shifted = omega arith in
       let low : bit_at shifted back ≡ bit_at (shifted % 2 ^ 64) back = ap (λ n. bit_at n back) (sym whole) ∙ bit_at_cat_low (shifted / 2 ^ 64) 64 (shifted % 2 ^ 64) back short in
       let high : bit_at shifted back ≡ bit_at more (back - at) = ap (λ n. bit_at n back) (sym plain) ∙ bit_at_cat_high more at 0 back (pow_pos at) above in
-      omega (arith, bit_at_or marks (shifted % 2 ^ 64) back, low, high, set, bit_at-lt marks back)
+      omega (arith, bit_at_or hash_bits (shifted % 2 ^ 64) back, low, high, set, bit_at-lt hash_bits back)

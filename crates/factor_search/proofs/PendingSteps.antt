@@ -8,11 +8,11 @@ use Rattle.std.proofs.lemmas.Option.{slice_get_within}
 use Rattle.lit_base.specs.Literals.{Literals}
 use Rattle.lit_base.specs.Occurrences.{HasEnd, Occurs}
 use Rattle.nib_mask.specs.Candidates.{IsCandidate}
-use Rattle.nib_mask.specs.Fronts.{CoversFronts}
+use Rattle.nib_mask.specs.Prefixes.{CoversPrefixes}
 use Rattle.nib_mask.specs.declared.masks.Masks.{Masks}
 use Rattle.lane_filter.specs.Bits.{SplitsLowest}
-use Rattle.lane_filter.specs.Lanes.{TellsBits}
-use Rattle.factor_search.specs.Factors.{AreMarks, AreWithin, Factored, offset_at}
+use Rattle.lane_filter.specs.Lanes.{IsMaskOf}
+use Rattle.factor_search.specs.Factors.{AreHashBits, AreWithin, Factored, offset_at}
 use Rattle.factor_search.proofs.FactorLemmas.{literal_is}
 use Rattle.lit_base.specs.NextEnds.{IsNextEnd, NoEndUpTo}
 use Rattle.factor_search.specs.PendingEnds.{ArePending, ArePendingEnds}
@@ -50,22 +50,22 @@ module _ (w : Factored) (text : List ℕ) where
       absurd (omega (arith, set, bit_at-zero (end - (seen + 1))))
 
   -- a probe adds the pending ends of the factors that end there
-  pub pending_further : (from seen back marks probed : ℕ) → back < 56 → AreWithin w → AreMarks w text (seen + 1 + back) probed
-      → ArePending w text from seen (seen + 1 + back) marks → ArePending w text from seen (seen + 1 + (back + 1)) (bit_or marks (probed * 2 ^ back % 2 ^ 64))
-  pending_further from seen back marks probed few within are pending place end occurs further after before =
+  pub pending_further : (from seen back hash_bits probed : ℕ) → back < 56 → AreWithin w → AreHashBits w text (seen + 1 + back) probed
+      → ArePending w text from seen (seen + 1 + back) hash_bits → ArePending w text from seen (seen + 1 + (back + 1)) (bit_or hash_bits (probed * 2 ^ back % 2 ^ 64))
+  pending_further from seen back hash_bits probed few within are pending place end occurs further after before =
       let off : ℕ = offset_at w place in
       let short : end - (seen + 1) < 64 = omega (arith, (within place (listed w.literals text place end occurs)).near, few, before, after) in
       elim (cases_lt end (seen + 1 + back + off)) [
-        | inl sooner ↦ marked_below marks probed back (end - (seen + 1)) short (pending place end occurs further after sooner)
+        | inl sooner ↦ marked_below hash_bits probed back (end - (seen + 1)) short (pending place end occurs further after sooner)
         | inr later ↦
             let there : end ≡ seen + 1 + back + off = omega (arith, later, before) in
             let set = are place (subst (Occurs w.literals text place) there occurs) in
             let above : end - (seen + 1) - back ≡ off = omega (arith, there) in
-            marked_above marks probed back (end - (seen + 1)) short (omega (arith, later)) (ap (bit_at probed) above ∙ set)
+            marked_above hash_bits probed back (end - (seen + 1)) short (omega (arith, later)) (ap (bit_at probed) above ∙ set)
       ]
 
 -- after a text's start, a position passes if the factor of a literal ends there
-module _ (w : Factored) (masks : Masks) (text : List ℕ) (seen passing : ℕ) (covers : CoversFronts w.literals (length w.literals.texts) w.offsets masks) (within : AreWithin w) (bytes : All (λ b. b < 256) text) (identifies : TellsBits (IsCandidate masks text) (seen + 1) 64 passing) where
+module _ (w : Factored) (masks : Masks) (text : List ℕ) (seen passing : ℕ) (covers : CoversPrefixes w.literals (length w.literals.texts) w.offsets masks) (within : AreWithin w) (bytes : All (λ b. b < 256) text) (identifies : IsMaskOf (IsCandidate masks text) (seen + 1) 64 passing) where
   pub passes : (place end : ℕ) → Occurs w.literals text place end → seen < end - offset_at w place → end - offset_at w place ≤ seen + 64 → bit_at passing (end - offset_at w place - (seen + 1)) ≡ 1
   passes place end occurs after inside =
       let before = listed w.literals text place end occurs in
@@ -89,7 +89,7 @@ AreLeft w text seen found rest = (place end : ℕ) → Occurs w.literals text pl
 
 module _ (w : Factored) (text : List ℕ) (seen : ℕ) (within : AreWithin w) where
   -- the lowest remaining position is probed
-  pub left_further : (found rest back others probed : ℕ) → SplitsLowest rest back others → AreMarks w text (seen + 1 + back) probed → AreLeft w text seen found rest → AreLeft w text seen (bit_or found (probed * 2 ^ back % 2 ^ 64)) others
+  pub left_further : (found rest back others probed : ℕ) → SplitsLowest rest back others → AreHashBits w text (seen + 1 + back) probed → AreLeft w text seen found rest → AreLeft w text seen (bit_or found (probed * 2 ^ back % 2 ^ 64)) others
   left_further found rest back others probed split are left place end occurs after inside =
       let near = factor_near w within text place end occurs in
       let off : ℕ = offset_at w place in
@@ -121,9 +121,9 @@ module _ (w : Factored) (text : List ℕ) (seen : ℕ) (within : AreWithin w) wh
       ]
 
   -- so `found` has the pending ends of the block
-  pub masked_pending : (from marks found rest : ℕ) → ((k : ℕ) → k < 56 → bit_at rest k ≡ 0) → AreLeft w text seen found rest → ((back : ℕ) → back < 64 → bit_at marks back ≡ 1 → bit_at found back ≡ 1)
-      → ArePending w text from seen (seen + 1) marks → ArePending w text from seen (seen + 56 + 1) found
-  masked_pending from marks found rest none left kept pending place end occurs further after before =
+  pub masked_pending : (from hash_bits found rest : ℕ) → ((k : ℕ) → k < 56 → bit_at rest k ≡ 0) → AreLeft w text seen found rest → ((back : ℕ) → back < 64 → bit_at hash_bits back ≡ 1 → bit_at found back ≡ 1)
+      → ArePending w text from seen (seen + 1) hash_bits → ArePending w text from seen (seen + 56 + 1) found
+  masked_pending from hash_bits found rest none left kept pending place end occurs further after before =
       let near = factor_near w within text place end occurs in
       elim (cases_lt end (seen + 1 + offset_at w place)) [
         | inl sooner ↦ kept (end - (seen + 1)) (omega (arith, near, sooner, after)) (pending place end occurs further after sooner)
@@ -131,7 +131,7 @@ module _ (w : Factored) (text : List ℕ) (seen : ℕ) (within : AreWithin w) wh
       ]
 
 -- a pending end has a bit
-pub pending_bit : (w : Factored) (text : List ℕ) (c : Pending) → ArePendingEnds w text c → (end : ℕ) → c.seen < end → end ≤ c.seen + c.count → HasEnd w.literals text end → bit_at c.marks (end - (c.seen + 1)) ≡ 1
+pub pending_bit : (w : Factored) (text : List ℕ) (c : Pending) → ArePendingEnds w text c → (end : ℕ) → c.seen < end → end ≤ c.seen + c.count → HasEnd w.literals text end → bit_at c.hash_bits (end - (c.seen + 1)) ≡ 1
 pending_bit w text c are end further within here =
     are.pending here.0 end here.1 further further (omega (arith, within))
 
@@ -145,15 +145,15 @@ next_within l text seen count None none = λ end further within here.
 next_within l text seen count (Some hit) next = next
 
 -- the state of a search after some ends of a block
-pub state_from : (w : Factored) (text : List ℕ) (from seen count marks passed : ℕ) (rest : Pending) → ArePending w text from seen (seen + count + 1) marks → from ≤ seen + passed → passed ≤ count → seen + count ≤ length text → count ≤ 56
-    → rest.seen ≡ seen + passed → rest.count ≡ count - passed → ((back : ℕ) → bit_at rest.marks back ≡ bit_at marks (passed + back)) → ArePendingEnds w text rest
-state_from w text from seen count marks passed rest pending sooner less inside few at left same = record {
+pub state_from : (w : Factored) (text : List ℕ) (from seen count hash_bits passed : ℕ) (rest : Pending) → ArePending w text from seen (seen + count + 1) hash_bits → from ≤ seen + passed → passed ≤ count → seen + count ≤ length text → count ≤ 56
+    → rest.seen ≡ seen + passed → rest.count ≡ count - passed → ((back : ℕ) → bit_at rest.hash_bits back ≡ bit_at hash_bits (passed + back)) → ArePendingEnds w text rest
+state_from w text from seen count hash_bits passed rest pending sooner less inside few at left same = record {
   pending = λ place end occurs further after before.
       let there : passed + (end - (rest.seen + 1)) ≡ end - (seen + 1) = omega (arith, after, at) in
-      same (end - (rest.seen + 1)) ∙ ap (bit_at marks) there ∙ pending place end occurs (omega (arith, further, at, sooner)) (omega (arith, after, at)) (omega (arith, before, at, left, less));
+      same (end - (rest.seen + 1)) ∙ ap (bit_at hash_bits) there ∙ pending place end occurs (omega (arith, further, at, sooner)) (omega (arith, after, at)) (omega (arith, before, at, left, less));
   inside = omega (arith, inside, at, left, less);
   few = omega (arith, few, left);
 }
 
-pub state_rest : (w : Factored) (text : List ℕ) (c : Pending) (passed : ℕ) (rest : Pending) → ArePendingEnds w text c → passed ≤ c.count → rest.seen ≡ c.seen + passed → rest.count ≡ c.count - passed → ((back : ℕ) → bit_at rest.marks back ≡ bit_at c.marks (passed + back)) → ArePendingEnds w text rest
-state_rest w text c passed rest are less at left same = state_from w text c.seen c.seen c.count c.marks passed rest are.pending (omega arith) less are.inside are.few at left same
+pub state_rest : (w : Factored) (text : List ℕ) (c : Pending) (passed : ℕ) (rest : Pending) → ArePendingEnds w text c → passed ≤ c.count → rest.seen ≡ c.seen + passed → rest.count ≡ c.count - passed → ((back : ℕ) → bit_at rest.hash_bits back ≡ bit_at c.hash_bits (passed + back)) → ArePendingEnds w text rest
+state_rest w text c passed rest are less at left same = state_from w text c.seen c.seen c.count c.hash_bits passed rest are.pending (omega arith) less are.inside are.few at left same

@@ -8,7 +8,7 @@ use Rattle.factor_search.specs.Factors.{Factored, offset_at}
 
 -- the ends after `from` and `seen` whose factor ends before `next` are pending: bit k stands for the end k + 1 positions after `seen`
 abbrev pub ArePending : Factored → List ℕ → ℕ → ℕ → ℕ → ℕ → Type 0
-ArePending w text from seen next marks = (place end : ℕ) → Occurs w.literals text place end → from < end → seen < end → end < next + offset_at w place → bit_at marks (end - (seen + 1)) ≡ 1
+ArePending w text from seen next hash_bits = (place end : ℕ) → Occurs w.literals text place end → from < end → seen < end → end < next + offset_at w place → bit_at hash_bits (end - (seen + 1)) ≡ 1
 
 -- the positions of a block that pass: each where the factor of a literal ends. Bit k stands for the position k + 1 after `seen`
 abbrev pub ArePassing : Factored → List ℕ → ℕ → ℕ → Type 0
@@ -16,6 +16,6 @@ ArePassing w text seen passing = (place end : ℕ) → Occurs w.literals text pl
 
 -- the state of a search: the next `count` ends of the text are pending by probes at all positions up to the last of them
 pub record ArePendingEnds (w : Factored) (text : List ℕ) (c : Pending) : Type 0 where
-  pub pending : ArePending w text c.seen c.seen (c.seen + c.count + 1) c.marks
+  pub pending : ArePending w text c.seen c.seen (c.seen + c.count + 1) c.hash_bits
   pub inside : c.seen + c.count ≤ length text
   pub few : c.count ≤ BLOCK

@@ -1,6 +1,6 @@
 //! Counts how often the last three bytes of factors occur in texts, by their hashes.
 ghost use Rattle.std.specs.Prelude.{◌≡◌, ◌^◌, ◌<◌, ◌≤◌, IfOk, length, vec_capacity, vec_len};
-ghost use Rattle.list_index.specs.declared.suffixes.marks.TheConstants.{HASH_BITS};
+ghost use Rattle.list_index.specs.declared.suffixes.hash_bits.TheConstants.{HASH_BITS};
 
 use crate::widths::WIDTH;
 use list_index::{HASH_BITS, case_bits, hash_of, last_bits, last_word, suffix_key};

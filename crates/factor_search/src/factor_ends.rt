@@ -24,7 +24,7 @@ pub(crate) struct Pending {
     /// How many positions after it are covered: a literal ends at one of them only if its bit is set.
     pub count: usize,
     /// Bit k stands for the end k + 1 positions after `seen`.
-    pub marks: u64,
+    pub hash_bits: u64,
 }
 
 impl Pending {
@@ -36,14 +36,14 @@ impl Pending {
     {
         factors.within_law();
         let start = from.saturating_sub(REACH);
-        let marks = pending_after(factors, text, start, 0, tally);
+        let hash_bits = pending_after(factors, text, start, 0, tally);
         let block = Pending {
             seen: start,
             count: BLOCK.min(text.len() - start),
-            marks,
+            hash_bits,
         };
         let rest = block.but_first(from - start);
-        tally.pending(rest.marks);
+        tally.pending(rest.hash_bits);
         rest
     }
 
@@ -55,12 +55,12 @@ impl Pending {
         requires room { self.seen + count < 2 ^ 64 }
         ensures seen { result.seen ≡ self.seen + count }
         ensures count { result.count ≡ self.count - count }
-        ensures marks { (back : ℕ) → bit_at result.marks back ≡ bit_at self.marks (count + back) }
+        ensures hash_bits { (back : ℕ) → bit_at result.hash_bits back ≡ bit_at self.hash_bits (count + back) }
     {
         Pending {
             seen: self.seen + count,
             count: self.count - count,
-            marks: self.marks >> count,
+            hash_bits: self.hash_bits >> count,
         }
     }
 
@@ -110,10 +110,10 @@ impl Pending {
         ensures within { IfSome result (λ found. found.0 ≤ self.seen + self.count) }
         ensures first { IfSome result (λ found. IsFirstEnding list.now text.now 0 found.0 found.1) }
     {
-        if self.marks == 0 || self.count == 0 {
+        if self.hash_bits == 0 || self.count == 0 {
             return None;
         }
-        first_marked(list, text, self.seen, self.count, self.marks)
+        first_marked(list, text, self.seen, self.count, self.hash_bits)
     }
 
     /// The pending ends of the next block, after a block in which nothing ends.
@@ -127,12 +127,12 @@ impl Pending {
         ensures none { NoEndUpTo factors.now.literals text.now (self.seen + self.count) result.seen }
     {
         let rest = self.but_first(self.count);
-        let (seen, marks) = next_pending(factors, text, rest.seen, rest.marks, tally);
-        tally.pending(marks);
+        let (seen, hash_bits) = next_pending(factors, text, rest.seen, rest.hash_bits, tally);
+        tally.pending(hash_bits);
         Pending {
             seen,
             count: BLOCK.min(text.len() - seen),
-            marks,
+            hash_bits,
         }
     }
 }
@@ -216,18 +216,18 @@ impl<'a> Ends for FactorEnds<'a> {
 }
 
 /// The first of the `count` positions after `seen` at which some literal ends, with the first such literal. Only
-/// positions with a bit in `marks` are tried.
+/// positions with a bit in `hash_bits` are tried.
 #[inline(never)]
 fn first_marked(
     list: &ListIndex,
     text: &[u8],
     seen: usize,
     count: usize,
-    marks: u64,
+    hash_bits: u64,
 ) -> Option<(usize, usize)>
     requires few { count ≤ 64 }
     requires inside { seen < length text.now }
-    requires marked { (back : ℕ) → back < count → HasEnd list.now text.now (seen + 1 + back) → bit_at marks back ≡ 1 }
+    requires marked { (back : ℕ) → back < count → HasEnd list.now text.now (seen + 1 + back) → bit_at hash_bits back ≡ 1 }
     ensures next { MatchOption result
         ((back : ℕ) → back < count → ¬ HasEnd list.now text.now (seen + 1 + back))
         (λ found. IsNextEnd list.now text.now seen found.0) }
@@ -236,7 +236,7 @@ fn first_marked(
 {
     let room = count.min(text.len() - seen);
     let mut back = 0;
-    let mut rest = marks;
+    let mut rest = hash_bits;
     while rest != 0 {
         let unmarked = rest.trailing_zeros() as usize;
         back += unmarked;

@@ -2,13 +2,13 @@
 ghost use Rattle.std.specs.Prelude.{◌≡◌, ℕ, ◌+◌, ◌^◌, ◌<◌, ◌≤◌, ◌++◌, ◌-◌, IfOk, length, replicate, slice_index, slice_range, vec_len};
 ghost use Rattle.std.specs.Int.{bit_at};
 ghost use Rattle.std.specs.Int.RustNames.{bit_and, bit_or};
-ghost use Rattle.list_index.specs.Marks.{IsMarked};
+ghost use Rattle.list_index.specs.HashBits.{IsMarked};
 ghost use Rattle.list_index.specs.Suffixes.{hash_of, last_bits, spelled, suffix_key};
-ghost use Rattle.list_index.specs.declared.suffixes.marks.TheConstants.{HASH_BITS};
-ghost use Rattle.nib_mask.specs.Fronts.{CoversFronts};
+ghost use Rattle.list_index.specs.declared.suffixes.hash_bits.TheConstants.{HASH_BITS};
+ghost use Rattle.nib_mask.specs.Prefixes.{CoversPrefixes};
 ghost use Rattle.nib_mask.specs.Halves.{widened};
 ghost use Rattle.factor_search.specs.declared.widths.TheConstants.{WIDTH};
-ghost use Rattle.factor_search.specs.Factors.{AreMarks, AreWithin};
+ghost use Rattle.factor_search.specs.Factors.{AreHashBits, AreWithin};
 
 use crate::choosing::{choose_offsets, estimate_of};
 use crate::counts::Counts;
@@ -39,15 +39,15 @@ pub struct Factors {
     /// The bucket of each literal in the masks.
     buckets: Vec<u8>,
     /// A byte for each hash. Bit `back` says that some literal has a factor with this hash `back` bytes before its end.
-    marks: Vec<u8>,
+    hash_bits: Vec<u8>,
     masks: ByteMasks,
     counts: Counts,
 }
 
 impl Model for Factors {
     ghost use Rattle.std.specs.Prelude.{◌≡◌, ◌^◌, ◌≤◌, length, vec_capacity, vec_len};
-    ghost use Rattle.list_index.specs.declared.suffixes.marks.TheConstants.{HASH_BITS};
-    ghost use Rattle.nib_mask.specs.Fronts.{CoversFronts};
+    ghost use Rattle.list_index.specs.declared.suffixes.hash_bits.TheConstants.{HASH_BITS};
+    ghost use Rattle.nib_mask.specs.Prefixes.{CoversPrefixes};
     ghost use Rattle.nib_mask.specs.Halves.{widened};
     ghost use Rattle.factor_search.specs.Widths.{IsLeastWidth};
     ghost use Rattle.factor_search.specs.Factors.{AreMarkedByFactors, Factored};
@@ -57,8 +57,8 @@ impl Model for Factors {
     ghost view = { λ w. record { literals = w.index.value; offsets = w.offsets.items } };
 
     ghost invariant = { λ w. IsLeastWidth w.index.value w.least
-        × AreMarkedByFactors w.index.value w.offsets.items w.marks.items (length w.index.value.texts)
-        × CoversFronts w.index.value (length w.index.value.texts) w.offsets.items (widened w.masks)
+        × AreMarkedByFactors w.index.value w.offsets.items w.hash_bits.items (length w.index.value.texts)
+        × CoversPrefixes w.index.value (length w.index.value.texts) w.offsets.items (widened w.masks)
         × (vec_len w.buckets ≡ length w.index.value.texts)
         × (2 ^ HASH_BITS ≤ vec_capacity w.counts.threes) };
 }
@@ -72,16 +72,16 @@ impl Factors {
         let least = least_width(list);
         let mut offsets = Vec::from_elem(alloc, 0, list.len())?;
         let mut buckets = Vec::from_elem(alloc, 0, list.len())?;
-        let mut marks = Vec::from_elem(alloc, 0, 1 << HASH_BITS)?;
+        let mut hash_bits = Vec::from_elem(alloc, 0, 1 << HASH_BITS)?;
         let counts = Counts::new(alloc)?;
-        mark_all(list, &mut offsets, &mut marks);
+        mark_all(list, &mut offsets, &mut hash_bits);
         let masks = masks_of(list, &offsets, &mut buckets);
         Ok(Factors {
             index,
             least,
             offsets,
             buckets,
-            marks,
+            hash_bits,
             masks,
             counts,
         })
@@ -104,7 +104,7 @@ impl Factors {
         let list = self.index.list();
         self.counts.count(list, sample);
         choose_offsets(list, &self.counts, &mut self.offsets);
-        mark_all(list, &mut self.offsets, &mut self.marks);
+        mark_all(list, &mut self.offsets, &mut self.hash_bits);
         self.masks = masks_of(list, &self.offsets, &mut self.buckets);
         estimate_of(&self.masks, widths_from(self.least), sample, rate)
     }
@@ -112,7 +112,7 @@ impl Factors {
     /// The masks. Where a literal ends in a text, a candidate stands as far before as its offset says.
     #[inline(always)]
     pub fn masks(&self) -> &ByteMasks
-        ensures { CoversFronts self.now.literals (length self.now.literals.texts) self.now.offsets (widened result.now) }
+        ensures { CoversPrefixes self.now.literals (length self.now.literals.texts) self.now.offsets (widened result.now) }
     {
         &self.masks
     }
@@ -122,30 +122,30 @@ impl Factors {
     pub(crate) fn within_law(&self)
         ensures { AreWithin self.now }
     {
-        let _marks = &self.marks;
+        let _hash_bits = &self.hash_bits;
     }
 
     /// The hash bits at a position: bit `back` is set if a literal ends at `at + back` whose factor ends at `at`, and
     /// rarely otherwise.
     #[inline(always)]
-    pub fn marks_at(&self, text: &[u8], at: usize) -> u8
+    pub fn hash_bits_at(&self, text: &[u8], at: usize) -> u8
         requires { at ≤ length text.now }
-        ensures { AreMarks self.now text.now at result }
+        ensures { AreHashBits self.now text.now at result }
     {
         if at < WIDTH {
-            return marks_near_front(&self.marks, self.index.fold(), self.least, text, at);
+            return hash_bits_near_prefix(&self.hash_bits, self.index.fold(), self.least, text, at);
         }
-        self.hash_bits_after_front(text, at)
+        self.hash_bits_after_prefix(text, at)
     }
 
-    /// As `marks_at`, for a position with at least four bytes before it.
+    /// As `hash_bits_at`, for a position with at least four bytes before it.
     #[inline(always)]
-    pub(crate) fn hash_bits_after_front(&self, text: &[u8], at: usize) -> u8
+    pub(crate) fn hash_bits_after_prefix(&self, text: &[u8], at: usize) -> u8
         requires four { 4 ≤ at }
         requires inside { at ≤ length text.now }
-        ensures { AreMarks self.now text.now at result }
+        ensures { AreHashBits self.now text.now at result }
     {
-        marks_of_widths(&self.marks, self.index.fold(), self.least, text, at)
+        hash_bits_of_widths(&self.hash_bits, self.index.fold(), self.least, text, at)
     }
 
     /// The cost of a search of `count` bytes with the counters `tally` and the ends `found`, in tenths of a nanosecond,
@@ -161,31 +161,31 @@ impl Factors {
 fn masks_of(list: &LitList, offsets: &Vec<u8>, buckets: &mut Vec<u8>) -> ByteMasks
     requires offsets { vec_len offsets.now ≡ length list.now.texts }
     requires buckets { vec_len buckets.old ≡ length list.now.texts }
-    ensures masks { CoversFronts list.now (length list.now.texts) offsets.now.items (widened result) }
+    ensures masks { CoversPrefixes list.now (length list.now.texts) offsets.now.items (widened result) }
     ensures buckets { vec_len buckets.new ≡ vec_len buckets.old }
 {
     group(list, offsets, buckets);
     let count = list.len();
-    ByteMasks::of_fronts(list, count, offsets, buckets)
+    ByteMasks::of_prefixes(list, count, offsets, buckets)
 }
 
 /// The hash bits of a position with at least four bytes before it, by all widths from the least on.
 #[inline(always)]
-fn marks_of_widths(marks: &Vec<u8>, fold: Fold, least: usize, text: &[u8], at: usize) -> u8
-    requires room { vec_len marks.now ≡ 2 ^ HASH_BITS }
+fn hash_bits_of_widths(hash_bits: &Vec<u8>, fold: Fold, least: usize, text: &[u8], at: usize) -> u8
+    requires room { vec_len hash_bits.now ≡ 2 ^ HASH_BITS }
     requires some { 0 < least }
     requires four { 4 ≤ at }
     requires inside { at ≤ length text.now }
     ensures { (width back : ℕ) → least ≤ width → width ≤ WIDTH
-        → IsMarked marks.now.items (hash_of HASH_BITS (suffix_key fold text.now at width)) back → bit_at result back ≡ 1 }
+        → IsMarked hash_bits.now.items (hash_of HASH_BITS (suffix_key fold text.now at width)) back → bit_at result back ≡ 1 }
 {
     let word = last_four(text, at);
     let case_bits = case_bits(fold);
-    let long = marks_of(marks, word, WIDTH, case_bits);
+    let long = hash_bits_of(hash_bits, word, WIDTH, case_bits);
     if least >= WIDTH {
         return long;
     }
-    let short = short_marks(marks, word, least, case_bits);
+    let short = short_hash_bits(hash_bits, word, least, case_bits);
     long | short
 }
 
@@ -202,69 +202,75 @@ fn last_four(text: &[u8], at: usize) -> u64
 
 /// The hash bits of the last `width` of eight bytes.
 #[inline(always)]
-fn marks_of(marks: &Vec<u8>, word: u64, width: usize, case_bits: u64) -> u8
-    requires room { vec_len marks.now ≡ 2 ^ HASH_BITS }
+fn hash_bits_of(hash_bits: &Vec<u8>, word: u64, width: usize, case_bits: u64) -> u8
+    requires room { vec_len hash_bits.now ≡ 2 ^ HASH_BITS }
     requires some { 0 < width }
     requires narrow { width ≤ 8 }
-    ensures { result ≡ slice_index marks.now.items (hash_of HASH_BITS (bit_or (bit_and word (last_bits width)) case_bits)) }
+    ensures { result ≡ slice_index hash_bits.now.items (hash_of HASH_BITS (bit_or (bit_and word (last_bits width)) case_bits)) }
 {
-    marks[hash_of(HASH_BITS, (word & last_bits(width)) | case_bits)]
+    hash_bits[hash_of(HASH_BITS, (word & last_bits(width)) | case_bits)]
 }
 
 /// The hash bits of the last of eight bytes. Few lists need it.
 #[inline(never)]
-fn marks_of_one(marks: &Vec<u8>, word: u64, case_bits: u64) -> u8
-    requires { vec_len marks.now ≡ 2 ^ HASH_BITS }
-    ensures { result ≡ slice_index marks.now.items (hash_of HASH_BITS (bit_or (bit_and word (last_bits 1)) case_bits)) }
+fn hash_bits_of_one(hash_bits: &Vec<u8>, word: u64, case_bits: u64) -> u8
+    requires { vec_len hash_bits.now ≡ 2 ^ HASH_BITS }
+    ensures { result ≡ slice_index hash_bits.now.items (hash_of HASH_BITS (bit_or (bit_and word (last_bits 1)) case_bits)) }
 {
-    marks_of(marks, word, 1, case_bits)
+    hash_bits_of(hash_bits, word, 1, case_bits)
 }
 
 /// The hash bits of the last bytes of a word, by all widths from the least to three.
 #[inline(always)]
-fn short_marks(marks: &Vec<u8>, word: u64, least: usize, case_bits: u64) -> u8
-    requires room { vec_len marks.now ≡ 2 ^ HASH_BITS }
+fn short_hash_bits(hash_bits: &Vec<u8>, word: u64, least: usize, case_bits: u64) -> u8
+    requires room { vec_len hash_bits.now ≡ 2 ^ HASH_BITS }
     requires some { 0 < least }
     ensures { (width back : ℕ) → least ≤ width → width < WIDTH
-        → IsMarked marks.now.items (hash_of HASH_BITS (bit_or (bit_and word (last_bits width)) case_bits)) back → bit_at result back ≡ 1 }
+        → IsMarked hash_bits.now.items (hash_of HASH_BITS (bit_or (bit_and word (last_bits width)) case_bits)) back → bit_at result back ≡ 1 }
 {
-    let three = marks_of(marks, word, 3, case_bits);
+    let three = hash_bits_of(hash_bits, word, 3, case_bits);
     if least > 2 {
         return three;
     }
-    let two = marks_of(marks, word, 2, case_bits);
+    let two = hash_bits_of(hash_bits, word, 2, case_bits);
     if least > 1 {
         return two | three;
     }
-    let one = marks_of_one(marks, word, case_bits);
+    let one = hash_bits_of_one(hash_bits, word, case_bits);
     one | (two | three)
 }
 
 /// The hash bits of a position with fewer bytes before it than a factor has: those of short literals.
 #[inline(never)]
-fn marks_near_front(marks: &Vec<u8>, fold: Fold, least: usize, text: &[u8], at: usize) -> u8
-    requires room { vec_len marks.now ≡ 2 ^ HASH_BITS }
+fn hash_bits_near_prefix(
+    hash_bits: &Vec<u8>,
+    fold: Fold,
+    least: usize,
+    text: &[u8],
+    at: usize,
+) -> u8
+    requires room { vec_len hash_bits.now ≡ 2 ^ HASH_BITS }
     requires some { 0 < least }
     requires inside { at ≤ length text.now }
     requires near { at < WIDTH }
     ensures { (width back : ℕ) → least ≤ width → width ≤ at
-        → IsMarked marks.now.items (hash_of HASH_BITS (suffix_key fold text.now at width)) back → bit_at result back ≡ 1 }
+        → IsMarked hash_bits.now.items (hash_of HASH_BITS (suffix_key fold text.now at width)) back → bit_at result back ≡ 1 }
 {
     let mut found = 0;
     for width in least..at + 1 {
-        found |= marks_before(marks, fold, text, at, width);
+        found |= hash_bits_before(hash_bits, fold, text, at, width);
     }
     found
 }
 
 /// The hash bits of the `width` bytes before a position.
-fn marks_before(marks: &Vec<u8>, fold: Fold, text: &[u8], at: usize, width: usize) -> u8
-    requires room { vec_len marks.now ≡ 2 ^ HASH_BITS }
+fn hash_bits_before(hash_bits: &Vec<u8>, fold: Fold, text: &[u8], at: usize, width: usize) -> u8
+    requires room { vec_len hash_bits.now ≡ 2 ^ HASH_BITS }
     requires some { 0 < width }
     requires narrow { width ≤ 8 }
     requires begins { width ≤ at }
     requires inside { at ≤ length text.now }
-    ensures { result ≡ slice_index marks.now.items (hash_of HASH_BITS (suffix_key fold text.now at width)) }
+    ensures { result ≡ slice_index hash_bits.now.items (hash_of HASH_BITS (suffix_key fold text.now at width)) }
 {
-    marks[hash_of(HASH_BITS, suffix_key(fold, text, at, width))]
+    hash_bits[hash_of(HASH_BITS, suffix_key(fold, text, at, width))]
 }

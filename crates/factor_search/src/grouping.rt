@@ -27,11 +27,11 @@ impl Halves {
     }
 
     /// Adds the halves of a prefix. A prefix that does not reach a position has all halves there.
-    fn with(self, front: &[u8]) -> Halves {
+    fn with(self, prefix: &[u8]) -> Halves {
         let mut more = self;
         for back in 0..POSITIONS {
-            if back < front.len() {
-                let byte = front[front.len() - 1 - back];
+            if back < prefix.len() {
+                let byte = prefix[prefix.len() - 1 - back];
                 more.low[back] |= 1 << (byte & 15);
                 more.high[back] |= 1 << (byte >> 4);
             } else {
@@ -65,21 +65,21 @@ pub(crate) fn group(list: &LitList, offsets: &Vec<u8>, buckets: &mut Vec<u8>)
     for place in 0..list.len() {
         let literal = list.get(place);
         let len = literal.len().saturating_sub(usize::from(offsets[place]));
-        let (front, _) = literal.split_at(len);
-        let bucket = best_bucket(groups, front);
-        groups[bucket] = groups[bucket].with(front);
+        let (prefix, _) = literal.split_at(len);
+        let bucket = best_bucket(groups, prefix);
+        groups[bucket] = groups[bucket].with(prefix);
         buckets[place] = bucket as u8;
     }
 }
 
 /// The bucket that passes the fewest additional triples with a prefix.
-fn best_bucket(groups: [Halves; 8], front: &[u8]) -> usize
+fn best_bucket(groups: [Halves; 8], prefix: &[u8]) -> usize
     ensures { result ≤ 7 }
 {
     let mut best = (0, u32::MAX);
     for bucket in 0..BUCKETS {
         let group = groups[bucket];
-        let more = group.with(front).triples().saturating_sub(group.triples());
+        let more = group.with(prefix).triples().saturating_sub(group.triples());
         if more < best.1 {
             best = (bucket, more);
         }

@@ -67,7 +67,7 @@ fn ends_in(alloc: Global, fold: Fold, literals: &[&[u8]], text: &[u8]) -> Option
 }
 
 #[test]
-fn tells_all_that_end_at_a_place(rt: HostRuntime) {
+fn reports_all_that_end_at_a_place(rt: HostRuntime) {
     let alloc = rt.alloc();
     assert_eq!(rt;
         ends_in(alloc, Fold::No, &NESTED, b"cababab"),
@@ -146,7 +146,7 @@ fn is_long_made(alloc: Global, count: usize) -> Option<bool> {
 }
 
 #[test]
-fn is_refused_where_bytes_or_fronts_are_too_many(rt: HostRuntime) {
+fn is_refused_where_bytes_or_prefixes_are_too_many(rt: HostRuntime) {
     let alloc = rt.alloc();
     assert_eq!(rt; is_wide_made(alloc, 127, b"\x01"), Some(true));
     assert_eq!(rt; is_wide_made(alloc, 128, b"\x01"), Some(false));

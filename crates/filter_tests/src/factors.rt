@@ -72,7 +72,7 @@ fn is_met_at(factors: &Factors, text: &[u8], end: usize, back: usize) -> bool {
     if back >= 8 || at > text.len() {
         return false;
     }
-    passes(factors, text, at) && (factors.marks_at(text, at) >> back) & 1 == 1
+    passes(factors, text, at) && (factors.hash_bits_at(text, at) >> back) & 1 == 1
 }
 
 /// Whether a search of the places that pass meets an end.
@@ -144,7 +144,7 @@ fn count_passed(factors: &Factors, text: &[u8]) -> (usize, usize) {
     for at in 3..text.len() {
         if passes(factors, text, at) {
             passed = passed.saturating_add(1);
-            marked = marked.saturating_add(usize::from(factors.marks_at(text, at) != 0));
+            marked = marked.saturating_add(usize::from(factors.hash_bits_at(text, at) != 0));
         }
     }
     (passed, marked)
@@ -218,7 +218,7 @@ fn found_fours(alloc: Global, bytes: [u8; 4]) -> Option<(usize, usize, usize)> {
 }
 
 #[test]
-fn probes_each_place_where_fronts_of_literals_are_many(rt: HostRuntime) {
+fn probes_each_place_where_prefixes_of_literals_are_many(rt: HostRuntime) {
     assert_eq!(rt; found_fours(rt.alloc(), *b"wxy."), Some((5, 5, 0)));
 }
 
@@ -247,7 +247,7 @@ fn found_many_fours(alloc: Global, bytes: [u8; 4]) -> Option<(usize, usize, usiz
 }
 
 #[test]
-fn counts_each_front_that_it_verifies_in_vain(rt: HostRuntime) {
+fn counts_each_prefix_that_it_verifies_in_vain(rt: HostRuntime) {
     assert_eq!(rt; found_many_fours(rt.alloc(), *b"wxy."), Some((15, 15, 0)));
     assert_eq!(rt; found_many_fours(rt.alloc(), *b"...."), Some((15, 15, 3)));
 }

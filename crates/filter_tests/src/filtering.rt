@@ -264,7 +264,7 @@ fn finds_one_literal_past_the_last_full_vector(rt: HostRuntime) -> Result<(), Fa
 }
 
 #[test]
-fn tells_whether_a_byte_is_set(rt: HostRuntime) -> Result<(), Fail> {
+fn shows_whether_a_byte_is_set(rt: HostRuntime) -> Result<(), Fail> {
     let mut bytes = [0; 33];
     assert!(rt; !any_set(&bytes));
     bytes[32] = 1;

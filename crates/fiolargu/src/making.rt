@@ -95,7 +95,7 @@ pub(crate) fn plan_of(
     }
 }
 
-/// Writes the numbers of literals to the front of a buffer, if it has room for them.
+/// Writes the numbers of literals to the start of a buffer, if it has room for them.
 pub(crate) fn write_numbers(places: &[Option<u16>], numbers: &mut [u32])
     ensures written { length places.now ≤ length numbers.old → take (length places.now) numbers.new ≡ map number_at places.now }
     ensures after { drop (length places.now) numbers.new ≡ drop (length places.now) numbers.old }

@@ -225,7 +225,7 @@ fn write_literal(plan: &Compiled, literal: usize, buffer: &mut [u8], len: &mut u
     write_bytes(plan.list().get(literal), buffer, len)
 }
 
-/// Writes bytes to the front of a buffer, if it has room. `len` gets how many they are.
+/// Writes bytes to the start of a buffer, if it has room. `len` gets how many they are.
 pub(crate) fn write_bytes(bytes: &[u8], buffer: &mut [u8], len: &mut usize) -> i32
     ensures written { result ≡ OK → take len.new buffer.new ≡ bytes.now }
     ensures len { len.new ≡ length bytes.now }

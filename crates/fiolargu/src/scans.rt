@@ -23,7 +23,7 @@ fn length_of(plan: &Compiled, hit: Hit) -> u32
     }
 }
 
-/// Writes hits to the front of a buffer that has room for them, and returns their number.
+/// Writes hits to the start of a buffer that has room for them, and returns their number.
 pub(crate) fn write_hits(plan: &Compiled, hits: &[Hit], buffer: &mut [FoundHit]) -> usize
     requires { length hits.now ≤ length buffer.old }
     ensures count { result ≡ length hits.now }

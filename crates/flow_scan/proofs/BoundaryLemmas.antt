@@ -9,8 +9,8 @@ use Rattle.flow_scan.proofs.LastBytes.{last_len}
 use Rattle.flow_scan.proofs.TailSteps.{last_of_short}
 
 -- two boundaries with the same parts are equal
-pub same_joining : (s t : Joining) → s.carry ≡ t.carry → s.tail ≡ t.tail → s.front ≡ t.front → s ≡ t
-same_joining s t p q r = λ i. record { carry = p i; tail = q i; front = r i }
+pub same_joining : (s t : Joining) → s.carry ≡ t.carry → s.tail ≡ t.tail → s.prefix ≡ t.prefix → s ≡ t
+same_joining s t p q r = λ i. record { carry = p i; tail = q i; prefix = r i }
 
 -- a slice across a position
 part_two : (start held ahead : ℕ) (xs : List ℕ) → start ≤ held → take (held + ahead - start) (drop start xs) ≡ drop start (take held xs) ++ take ahead (drop held xs)
@@ -18,18 +18,18 @@ part_two start held ahead xs before =
     let m = held - start in
     let count : held + ahead - start ≡ m + ahead = omega arith in
     let all : start + m ≡ held = omega arith in
-    let front : take m (drop start xs) ≡ drop start (take held xs) = sym (drop-take start m xs) ∙ ap (λ n. drop start (take n xs)) all in
+    let prefix : take m (drop start xs) ≡ drop start (take held xs) = sym (drop-take start m xs) ∙ ap (λ n. drop start (take n xs)) all in
     let rest : drop m (drop start xs) ≡ drop held xs = drop-drop m start xs ∙ ap (λ n. drop n xs) all in
     ap (λ n. take n (drop start xs)) count ∙ take-add m ahead (drop start xs)
-    ∙ ap (λ ys. ys ++ take ahead (drop m (drop start xs))) front ∙ ap (λ ys. drop start (take held xs) ++ take ahead ys) rest
+    ∙ ap (λ ys. ys ++ take ahead (drop m (drop start xs))) prefix ∙ ap (λ ys. drop start (take held xs) ++ take ahead ys) rest
 
 -- the slice from the tail on is the tail and the offered bytes
 pub text_of : (carry held ahead len : ℕ) (xs : List ℕ) → held ≤ length xs → len ≡ length (last_bytes carry (take held xs)) → take (held + ahead - (held - len)) (drop (held - len) xs) ≡ last_bytes carry (take held xs) ++ take ahead (drop held xs)
 text_of carry held ahead len xs fits is_len =
-    let front = length-take-le held xs fits in
-    let start : held - len ≡ length (take held xs) - carry = omega (arith, is_len, front, last_len carry (take held xs)) in
+    let prefix = length-take-le held xs fits in
+    let start : held - len ≡ length (take held xs) - carry = omega (arith, is_len, prefix, last_len carry (take held xs)) in
     ap (λ n. take (held + ahead - n) (drop n xs)) start
-    ∙ part_two (length (take held xs) - carry) held ahead xs (omega (arith, front))
+    ∙ part_two (length (take held xs) - carry) held ahead xs (omega (arith, prefix))
 
 -- the tail, moved to the start
 pub tail_moved : (carry held : ℕ) (xs : List ℕ) → carry ≤ held → held ≤ length xs → last_bytes carry (take carry (copy_within xs (held - carry) held 0)) ≡ last_bytes carry (take held xs)
@@ -48,7 +48,7 @@ tail_moved carry held xs more fits =
 
 -- a piece that stands whole after the held bytes
 pub kept_short : (held : ℕ) (xs piece : List ℕ) → take (length piece) (drop held xs) ≡ piece → take (held + length piece) xs ≡ take held xs ++ piece
-kept_short held xs piece front = take-add held (length piece) xs ∙ ap (λ ys. take held xs ++ ys) front
+kept_short held xs piece prefix = take-add held (length piece) xs ∙ ap (λ ys. take held xs ++ ys) prefix
 
 -- of a longer piece, only the last bytes count
 pub kept_long : (carry : ℕ) (xs rest piece : List ℕ) → carry ≤ length piece → last_bytes carry (take carry (last_bytes carry piece ++ rest)) ≡ last_bytes carry (xs ++ piece)
@@ -60,13 +60,13 @@ kept_long carry xs rest piece long =
     ∙ sym (ap (λ n. drop n (xs ++ piece)) skip ∙ drop-append-add xs piece (length piece - carry))
 
 -- if offered bytes of a piece stand after the held bytes, so do fewer bytes of it
-pub offered_front : (count ahead : ℕ) (held piece : List ℕ) → take ahead held ≡ take ahead piece → count ≤ ahead → take count held ≡ take count piece
-offered_front count ahead held piece offered few =
+pub offered_prefix : (count ahead : ℕ) (held piece : List ℕ) → take ahead held ≡ take ahead piece → count ≤ ahead → take count held ≡ take count piece
+offered_prefix count ahead held piece offered few =
     sym (take-take count ahead held few) ∙ ap (take count) offered ∙ take-take count ahead piece few
 
 -- the prefix of a text that begins with a tail
-pub front_after : (tail piece : List ℕ) (carry stop : ℕ) → length tail ≤ stop → stop ≤ length (tail ++ take carry piece) → take stop (tail ++ take carry piece) ≡ tail ++ take (stop - length tail) piece
-front_after tail piece carry stop after within =
+pub prefix_after : (tail piece : List ℕ) (carry stop : ℕ) → length tail ≤ stop → stop ≤ length (tail ++ take carry piece) → take stop (tail ++ take carry piece) ≡ tail ++ take (stop - length tail) piece
+prefix_after tail piece carry stop after within =
     let count = stop - length tail in
     let at : length tail + count ≡ stop = omega (arith, after) in
     let fits : count ≤ carry = omega (arith, within, length-append tail (take carry piece), length-take carry piece) in

@@ -28,19 +28,19 @@ last_len carry text = length-drop (length text - carry) text
 pub occurs_after_last : (l : Literals) (text piece : List ℕ) (place d : ℕ) → HasBounds l → 0 < d → Occurs l (text ++ piece) place (length text + d) → Occurs l (last_bytes (carry_of l) text ++ piece) place (length (last_bytes (carry_of l) text) + d)
 occurs_after_last l text piece place d f some o =
     let carry = carry_of l in
-    let front = before_last carry text in
+    let prefix = before_last carry text in
     let last = last_bytes carry text in
-    let at : length text + d ≡ length front + (length last + d) = omega (arith, before_len carry text, last_len carry text) in
-    let moved : Occurs l (front ++ (last ++ piece)) place (length front + (length last + d)) =
-    subst (λ e. Occurs l (front ++ (last ++ piece)) place e) at (subst (λ t. Occurs l t place (length text + d)) (regrouped carry text piece) o) in
-    occurs_in_rest l front (last ++ piece) place (length last + d) moved
+    let at : length text + d ≡ length prefix + (length last + d) = omega (arith, before_len carry text, last_len carry text) in
+    let moved : Occurs l (prefix ++ (last ++ piece)) place (length prefix + (length last + d)) =
+    subst (λ e. Occurs l (prefix ++ (last ++ piece)) place e) at (subst (λ t. Occurs l t place (length text + d)) (regrouped carry text piece) o) in
+    occurs_in_rest l prefix (last ++ piece) place (length last + d) moved
     (omega (arith, f.fits place moved.literal moved.stands, moved.begins, before_len carry text, last_len carry text))
 
 -- and the other way round
 pub occurs_after_all : (l : Literals) (carry : ℕ) (text piece : List ℕ) (place d : ℕ) → Occurs l (last_bytes carry text ++ piece) place (length (last_bytes carry text) + d) → Occurs l (text ++ piece) place (length text + d)
 occurs_after_all l carry text piece place d o =
-    let front = before_last carry text in
+    let prefix = before_last carry text in
     let last = last_bytes carry text in
-    let at : length front + (length last + d) ≡ length text + d = omega (arith, before_len carry text, last_len carry text) in
-    let moved : Occurs l (front ++ (last ++ piece)) place (length front + (length last + d)) = occurs_after l front (last ++ piece) place (length last + d) o in
-    subst (λ e. Occurs l (text ++ piece) place e) at (subst (λ t. Occurs l t place (length front + (length last + d))) (sym (regrouped carry text piece)) moved)
+    let at : length prefix + (length last + d) ≡ length text + d = omega (arith, before_len carry text, last_len carry text) in
+    let moved : Occurs l (prefix ++ (last ++ piece)) place (length prefix + (length last + d)) = occurs_after l prefix (last ++ piece) place (length last + d) o in
+    subst (λ e. Occurs l (text ++ piece) place e) at (subst (λ t. Occurs l t place (length prefix + (length last + d))) (sym (regrouped carry text piece)) moved)

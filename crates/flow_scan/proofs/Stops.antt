@@ -8,15 +8,15 @@ use Rattle.text_ends.specs.HitsAfter.{AreHitsAfter, GainsHitsAfter, StopsAt}
 use Rattle.flow_scan.specs.Tails.{AreAdded, StopsIn}
 use Rattle.text_ends.proofs.HitLists.{gained_both, gained_more}
 use Rattle.text_ends.proofs.Stops.{same_number, to_end}
-use Rattle.flow_scan.proofs.BoundaryLemmas.{front_after}
+use Rattle.flow_scan.proofs.BoundaryLemmas.{prefix_after}
 use Rattle.flow_scan.proofs.TailSteps.{added_in_place}
 
 -- a search that stopped in the first bytes of a piece, after a tail
-pub stopped_in_front : (l : Literals) (tail piece : List ℕ) (carry at most stop : ℕ) (old new : List (ℕ × ℕ)) → StopsAt l (tail ++ take carry piece) (length tail) at most stop old new
+pub stopped_in_prefix : (l : Literals) (tail piece : List ℕ) (carry at most stop : ℕ) (old new : List (ℕ × ℕ)) → StopsAt l (tail ++ take carry piece) (length tail) at most stop old new
     → (stop - length tail < length piece → length old + most ≤ length new) → StopsIn l tail piece at most (stop - length tail) old new
-stopped_in_front l tail piece carry at most stop old new search enough = record {
+stopped_in_prefix l tail piece carry at most stop old new search enough = record {
   within = omega (arith, search.after, search.within, length-append tail (take carry piece), length-take carry piece);
-  gained = subst (λ t. GainsHitsAfter l t (length tail) at old new) (front_after tail piece carry stop search.after search.within) search.gained;
+  gained = subst (λ t. GainsHitsAfter l t (length tail) at old new) (prefix_after tail piece carry stop search.after search.within) search.gained;
   enough = enough;
   least = search.least;
   few = search.few;
@@ -31,9 +31,9 @@ stopped_in_place l tail piece at most stop count old middle new bounds first few
     let text = tail ++ take carry piece in
     let more = gained_more old middle first.gained.found first.gained.grown in
     let there : stop ≡ length text = to_end l text (length tail) at most stop old middle first (omega (arith, few, more)) in
-    let front : take carry piece ≡ take carry (take count piece) = sym (take-take carry count piece second.after) in
+    let prefix : take carry piece ≡ take carry (take count piece) = sym (take-take carry count piece second.after) in
     let early : AreAdded l tail (take carry (take count piece)) at first.gained.found =
-    subst (λ p. AreAdded l tail p at first.gained.found) front
+    subst (λ p. AreAdded l tail p at first.gained.found) prefix
     (subst (λ t. AreHitsAfter l t (length tail) at first.gained.found) (take_all stop text (omega (arith, there))) first.gained.added) in
     let long : carry ≤ length (take count piece) = omega (arith, second.after, second.within, length-take count piece) in
     record {

@@ -10,7 +10,7 @@ use Rattle.flow_scan.specs.Tails.{AreAdded, AreSteps, GainsHits, last_bytes}
 use Rattle.text_ends.specs.HitsAfter.{AreHitsAfter}
 use Rattle.lit_plan.specs.Bounds.{HasBounds, carry_of}
 use Rattle.flow_scan.proofs.LastBytes.{last_len, occurs_after_all, occurs_after_last}
-use Rattle.text_ends.proofs.Occurring.{occurs_after, occurs_of_front}
+use Rattle.text_ends.proofs.Occurring.{occurs_after, occurs_of_prefix}
 use Rattle.text_ends.proofs.HitLists.{hits_joined, hits_none, none_past}
 
 -- the hits that a piece adds after the last bytes of a text are those that it adds after the text
@@ -38,23 +38,23 @@ pub added_joined : (l : Literals) (text first second : List ℕ) (at : ℕ) (fou
 added_joined l text first second at found rest early late =
     let whole : List ℕ = text ++ first ++ second in
     let m = length (text ++ first) in
-    let front : take m whole ≡ text ++ first = take_at (text ++ first) second m refl in
-    let told : at + length first ≡ at + (m - length text) = omega (arith, length-append text first) in
+    let prefix : take m whole ≡ text ++ first = take_at (text ++ first) second m refl in
+    let known : at + length first ≡ at + (m - length text) = omega (arith, length-append text first) in
     let all : AreHitsAfter l whole (length text) at (found ++ rest) =
     hits_joined l whole (length text) m at found rest (omega (arith, length-append text first)) (omega (arith, length-append (text ++ first) second))
-    (subst (λ t. AreHitsAfter l t (length text) at found) (sym front) early)
-    (subst (λ x. AreHitsAfter l whole m x rest) told late) in
+    (subst (λ t. AreHitsAfter l t (length text) at found) (sym prefix) early)
+    (subst (λ x. AreHitsAfter l whole m x rest) known late) in
     subst (λ t. AreHitsAfter l t (length text) at (found ++ rest)) (append_assoc text first second) all
 
 -- the last bytes of a text and a piece depend on the text's last bytes and the piece alone
 pub last_of_last : (most : ℕ) (text piece : List ℕ) → last_bytes most (last_bytes most text ++ piece) ≡ last_bytes most (text ++ piece)
 last_of_last most text piece =
     let skip = length text - most in
-    let front : drop skip (text ++ piece) ≡ last_bytes most text ++ piece = drop-append-le skip text piece (omega arith) in
+    let prefix : drop skip (text ++ piece) ≡ last_bytes most text ++ piece = drop-append-le skip text piece (omega arith) in
     let more = length (last_bytes most text ++ piece) - most in
     let count : skip + more ≡ length (text ++ piece) - most =
     omega (arith, length-append text piece, length-append (last_bytes most text) piece, last_len most text) in
-    ap (drop more) (sym front) ∙ drop-drop more skip (text ++ piece) ∙ ap (λ n. drop n (text ++ piece)) count
+    ap (drop more) (sym prefix) ∙ drop-drop more skip (text ++ piece) ∙ ap (λ n. drop n (text ++ piece)) count
 
 -- the last bytes of a text that is no longer are the text
 pub last_of_short : (most : ℕ) (text : List ℕ) → length text ≤ most → last_bytes most text ≡ text
@@ -81,23 +81,23 @@ steps_are_hits l base pieces hits b s = steps_after l [] base pieces hits b (sub
 pub added_in_place : (l : Literals) (tail piece : List ℕ) (at : ℕ) (found rest : List (ℕ × ℕ)) → HasBounds l → carry_of l ≤ length piece → AreAdded l tail (take (carry_of l) piece) at found → AreHitsAfter l piece (carry_of l) (at + carry_of l) rest → AreAdded l tail piece at (found ++ rest)
 added_in_place l tail piece at found rest b long early late =
     let carry = carry_of l in
-    let front = take carry piece in
+    let prefix = take carry piece in
     let back = drop carry piece in
-    let whole : front ++ back ≡ piece = take-append-drop carry piece in
-    let len : length front ≡ carry = omega (arith, length-take carry piece) in
-    let skip : length (tail ++ front) - carry ≡ length tail = omega (arith, length-append tail front, len) in
-    let last : last_bytes carry (tail ++ front) ≡ front = ap (λ n. drop n (tail ++ front)) skip ∙ drop_at tail front (length tail) refl in
-    let here : AreHitsAfter l (front ++ back) (length front) (at + length front) rest =
-    subst (λ n. AreHitsAfter l (front ++ back) n (at + n) rest) (sym len) (subst (λ t. AreHitsAfter l t carry (at + carry) rest) (sym whole) late) in
-    let after : AreAdded l (tail ++ front) back (at + length front) rest =
-    added_after_all l (tail ++ front) back (at + length front) rest b (subst (λ t. AreAdded l t back (at + length front) rest) (sym last) here) in
-    subst (λ t. AreAdded l tail t at (found ++ rest)) whole (added_joined l tail front back at found rest early after)
+    let whole : prefix ++ back ≡ piece = take-append-drop carry piece in
+    let len : length prefix ≡ carry = omega (arith, length-take carry piece) in
+    let skip : length (tail ++ prefix) - carry ≡ length tail = omega (arith, length-append tail prefix, len) in
+    let last : last_bytes carry (tail ++ prefix) ≡ prefix = ap (λ n. drop n (tail ++ prefix)) skip ∙ drop_at tail prefix (length tail) refl in
+    let here : AreHitsAfter l (prefix ++ back) (length prefix) (at + length prefix) rest =
+    subst (λ n. AreHitsAfter l (prefix ++ back) n (at + n) rest) (sym len) (subst (λ t. AreHitsAfter l t carry (at + carry) rest) (sym whole) late) in
+    let after : AreAdded l (tail ++ prefix) back (at + length prefix) rest =
+    added_after_all l (tail ++ prefix) back (at + length prefix) rest b (subst (λ t. AreAdded l t back (at + length prefix) rest) (sym last) here) in
+    subst (λ t. AreAdded l tail t at (found ++ rest)) whole (added_joined l tail prefix back at found rest early after)
 
 -- where nothing ends in a piece, nothing ends in its first bytes
-pub quiet_front : (l : Literals) (tail piece : List ℕ) (n : ℕ) → NoEndAfter l (tail ++ piece) (length tail) → NoEndAfter l (tail ++ take n piece) (length tail)
-quiet_front l tail piece n none end later here =
+pub quiet_prefix : (l : Literals) (tail piece : List ℕ) (n : ℕ) → NoEndAfter l (tail ++ piece) (length tail) → NoEndAfter l (tail ++ take n piece) (length tail)
+quiet_prefix l tail piece n none end later here =
     let whole : (tail ++ take n piece) ++ drop n piece ≡ tail ++ piece = append_assoc tail (take n piece) (drop n piece) ∙ ap (λ t. tail ++ t) (take-append-drop n piece) in
-    none end later (here.0, subst (λ t. Occurs l t here.0 end) whole (occurs_of_front l (tail ++ take n piece) (drop n piece) here.0 end here.1))
+    none end later (here.0, subst (λ t. Occurs l t here.0 end) whole (occurs_of_prefix l (tail ++ take n piece) (drop n piece) here.0 end here.1))
 
 -- nor in the piece alone
 pub quiet_rest : (l : Literals) (tail piece : List ℕ) (n : ℕ) → NoEndAfter l (tail ++ piece) (length tail) → NoEndAfter l piece n
@@ -109,11 +109,11 @@ pub hits_fed : (l : Literals) (text piece : List ℕ) (place : ℕ) (old new : L
 hits_fed l text piece place old new b reached before gains =
     let whole : List ℕ = text ++ piece in
     let more : AreAdded l text piece place gains.found = added_after_all l text piece place gains.found b gains.added in
-    let told : place ≡ 0 + (length text - 0) = omega (arith, reached) in
+    let known : place ≡ 0 + (length text - 0) = omega (arith, reached) in
     subst (AreHitsAfter l whole 0 0) (sym gains.grown)
     (hits_joined l whole 0 (length text) 0 old gains.found (omega arith) (omega (arith, length-append text piece))
     (subst (λ t. AreHitsAfter l t 0 0 old) (sym (take_at text piece (length text) refl)) before)
-    (subst (λ x. AreHitsAfter l whole (length text) x gains.found) told more))
+    (subst (λ x. AreHitsAfter l whole (length text) x gains.found) known more))
 
 -- one more piece, joined
 pub concat_push : (pieces : List (List ℕ)) (piece : List ℕ) → concat (pieces ++ piece ∷ []) ≡ concat pieces ++ piece

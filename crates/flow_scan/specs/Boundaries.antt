@@ -6,7 +6,7 @@ use Rattle.flow_scan.specs.declared.boundary.TheConstants.{SHORT}
 pub record Joining : Type 0 where
   pub carry : ℕ
   pub tail : List ℕ
-  pub front : List ℕ
+  pub prefix : List ℕ
 
 -- room for the overlap and the bytes that are offered after it, in which the held and the offered bytes lie
 pub record IsBoundary (len carry held ahead : ℕ) : Type 0 where
@@ -15,6 +15,6 @@ pub record IsBoundary (len carry held ahead : ℕ) : Type 0 where
   pub within : held + ahead ≤ len
 
 -- the first bytes of a piece: all of them, or as many as a hit in the rest may need
-pub record AreOffered (carry : ℕ) (piece front : List ℕ) : Type 0 where
-  pub first : front ≡ take (length front) piece
-  pub enough : (length front ≡ length piece) ⊎ (length front ≡ carry)
+pub record AreOffered (carry : ℕ) (piece prefix : List ℕ) : Type 0 where
+  pub first : prefix ≡ take (length prefix) piece
+  pub enough : (length prefix ≡ length piece) ⊎ (length prefix ≡ carry)

@@ -33,7 +33,7 @@ impl Model for Boundary {
     ghost view = { λ s. record {
       carry = s.carry;
       tail = last_bytes s.carry (take s.held s.room.items);
-      front = take s.ahead (drop s.held s.room.items);
+      prefix = take s.ahead (drop s.held s.room.items);
     } };
 
     ghost invariant = { λ s. IsBoundary (vec_len s.room) s.carry s.held s.ahead };
@@ -43,7 +43,7 @@ impl Boundary {
     /// A boundary without bytes.
     pub(crate) fn new(alloc: Global, carry: usize) -> Result<Boundary, AllocError>
         requires { carry < 2 ^ 32 }
-        ensures { IfOk result (λ s. s ≡ record { carry = carry; tail = []; front = [] }) }
+        ensures { IfOk result (λ s. s ≡ record { carry = carry; tail = []; prefix = [] }) }
     {
         Ok(Boundary {
             room: vec![in alloc; 0; carry + carry.max(SHORT)]?,
@@ -62,14 +62,14 @@ impl Boundary {
 
     /// How many bytes of the next piece it has.
     pub(crate) fn ahead(&self) -> usize
-        ensures { result ≡ length self.now.front }
+        ensures { result ≡ length self.now.prefix }
     {
         self.ahead
     }
 
     /// The tail, followed by the first bytes of the next piece.
     pub(crate) fn text(&self) -> &[u8]
-        ensures { result.now ≡ self.now.tail ++ self.now.front }
+        ensures { result.now ≡ self.now.tail ++ self.now.prefix }
     {
         &self.room[self.held - self.tail_len()..self.held + self.ahead]
     }
@@ -78,29 +78,29 @@ impl Boundary {
     pub(crate) fn offer(&mut self, piece: &[u8])
         ensures carry { self.new.carry ≡ self.old.carry }
         ensures tail { self.new.tail ≡ self.old.tail }
-        ensures front { AreOffered self.old.carry piece.now self.new.front }
+        ensures prefix { AreOffered self.old.carry piece.now self.new.prefix }
     {
         let ahead = offered(self.carry, piece.len());
-        let (front, _) = piece.split_at(ahead);
+        let (prefix, _) = piece.split_at(ahead);
         self.held = make_room(&mut self.room, self.carry, self.held, ahead);
-        write(&mut self.room, self.held, front);
+        write(&mut self.room, self.held, prefix);
         self.ahead = ahead;
     }
 
     /// Adds the first `count` bytes of the offered piece to the stream.
     pub(crate) fn commit(&mut self, piece: &[u8], count: usize)
-        requires offered { AreOffered self.old.carry piece.now self.old.front }
+        requires offered { AreOffered self.old.carry piece.now self.old.prefix }
         requires within { count ≤ length piece.now }
-        ensures { self.new ≡ record self.old { tail = last_bytes self.old.carry (self.old.tail ++ take count piece.now); front = [] } }
+        ensures { self.new ≡ record self.old { tail = last_bytes self.old.carry (self.old.tail ++ take count piece.now); prefix = [] } }
     {
-        let (front, _) = piece.split_at(count);
-        self.held = keep_last(&mut self.room, self.carry, self.held, self.ahead, front);
+        let (prefix, _) = piece.split_at(count);
+        self.held = keep_last(&mut self.room, self.carry, self.held, self.ahead, prefix);
         self.ahead = 0;
     }
 
     /// Forgets all bytes.
     pub(crate) fn restart(&mut self)
-        ensures { self.new ≡ record self.old { tail = []; front = [] } }
+        ensures { self.new ≡ record self.old { tail = []; prefix = [] } }
     {
         self.held = 0;
         self.ahead = 0;
@@ -149,7 +149,7 @@ fn make_room(room: &mut Vec<u8>, carry: usize, held: usize, more: usize) -> usiz
 fn keep_last(room: &mut Vec<u8>, carry: usize, held: usize, ahead: usize, piece: &[u8]) -> usize
     requires room { carry ≤ vec_len room.old }
     requires held { held + ahead ≤ vec_len room.old }
-    requires front { length piece.now ≤ ahead → take (length piece.now) (drop held room.old.items) ≡ piece.now }
+    requires prefix { length piece.now ≤ ahead → take (length piece.now) (drop held room.old.items) ≡ piece.now }
     requires long { ahead < length piece.now → carry ≤ length piece.now }
     ensures tail { last_bytes carry (take result room.new.items) ≡ last_bytes carry (take held room.old.items ++ piece.now) }
     ensures fits { result ≤ vec_len room.new }

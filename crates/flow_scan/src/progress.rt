@@ -140,7 +140,7 @@ fn add_piece<S: HitSearch>(
 ) -> Result<usize, AllocError>
     requires plan { S.serves search.old compiled.now.literals }
     requires carry { boundary.now.carry ≡ carry_of compiled.now.literals }
-    requires front { AreOffered boundary.now.carry piece.now boundary.now.front }
+    requires prefix { AreOffered boundary.now.carry piece.now boundary.now.prefix }
     requires room { at + length piece.now < 2 ^ 64 }
     ensures plan { S.serves search.new compiled.now.literals }
     ensures ok { IfOk result (λ count. StopsIn compiled.now.literals boundary.now.tail piece.now at most count out.old.items out.new.items) }

@@ -3,8 +3,8 @@ use Rattle.std.proofs.Common.{◌≡◌, ℕ, ◌<◌, Bool, true, false, ◌&&�
 use Rattle.byte_io.specs.Sources.{AreShort, Ask, Sources, after, ask_of, taken_by}
 use Rattle.std.proofs.lemmas.List.{length-map}
 use Rattle.std.proofs.lemmas.Bool.Decides.{nat_tests}
-use Rattle.byte_io.specs.Devices.{Told}
-use Rattle.byte_io.proofs.ToldLemmas.{Told-none, Told-weaker}
+use Rattle.byte_io.specs.Devices.{IfKnown}
+use Rattle.byte_io.proofs.KnownLemmas.{IfKnown-none, IfKnown-weaker}
 use Rattle.grep_run.specs.declared.options.GrepOptions.{GrepOptions}
 use Rattle.grep_run.specs.declared.request.Found.{Found}
 use Rattle.grep_run.specs.declared.status.Stop.{Stop}
@@ -32,10 +32,10 @@ one-alone o test ask s left (Err stop) out_old out_new err_old err_new short e p
     InputsSoFar-cut ask [] left (InputsSoFar-none o test (ask ∷ []) s nothing out_old err_old refl refl short) e out_new err_new p
 
 pub search-alone : (o : GrepOptions) (test : List ℕ → Bool) (ask : Ask) (known left : Option Sources) (r : Result Found Stop) (out_old out_new err_old err_new : Writer)
-    → Told known left (λ s l. AreShort s → (l ≡ after ask s) × Searches o test (name_of ask) (taken_by ask s) r out_old out_new err_old err_new)
-    → Told known left (λ s l. AreShort s → SearchesAll o test (searched o test (found (ask ∷ []) s)) s l r out_old out_new err_old err_new)
+    → IfKnown known left (λ s l. AreShort s → (l ≡ after ask s) × Searches o test (name_of ask) (taken_by ask s) r out_old out_new err_old err_new)
+    → IfKnown known left (λ s l. AreShort s → SearchesAll o test (searched o test (found (ask ∷ []) s)) s l r out_old out_new err_old err_new)
 search-alone o test ask known left r out_old out_new err_old err_new p =
-    Told-weaker known left _ (λ s l. AreShort s → SearchesAll o test (searched o test (found (ask ∷ []) s)) s l r out_old out_new err_old err_new) p
+    IfKnown-weaker known left _ (λ s l. AreShort s → SearchesAll o test (searched o test (found (ask ∷ []) s)) s l r out_old out_new err_old err_new) p
     (λ s l h short. let both = h short in one-alone o test ask s l r out_old out_new err_old err_new short both.0 both.1)
 
 -- where there are operands, their inputs are all
@@ -59,6 +59,6 @@ map-some f xs e = omega (arith, is-positive (length xs) e, length-map xs f)
 
 -- where there is no memory to begin, there is no ask and nothing is written
 pub search-none : (o : GrepOptions) (test : List ℕ → Bool) (all : List Ask) (known : Option Sources) (out err : Writer)
-    → Told known known (λ s l. AreShort s → StopsAt o test (searched o test (found all s)) s l out out err err)
+    → IfKnown known known (λ s l. AreShort s → StopsAt o test (searched o test (found all s)) s l out out err err)
 search-none o test all known out err =
-    Told-none known (λ s l. AreShort s → StopsAt o test (searched o test (found all s)) s l out out err err) (λ s short. StopsAt-none o test (searched o test (found all s)) s out err)
+    IfKnown-none known (λ s l. AreShort s → StopsAt o test (searched o test (found all s)) s l out out err err) (λ s short. StopsAt-none o test (searched o test (found all s)) s out err)

@@ -2,7 +2,7 @@
 use Rattle.std.proofs.Common.{◌≡◌, ◌≢◌, ◌⊎◌, inl, inr, ℕ, Bool, true, false, IfOk, OnOk, OnErr, ◌||◌, List, [], Option, Some, Result, Ok, Err, refl, sym, ap, ◌∙◌, subst, unwrap_or}
 use Rattle.byte_io.specs.Sources.{AreShort, Sources, after_all}
 use Rattle.std.proofs.Math.Bool.{or-false, or-true}
-use Rattle.byte_io.specs.Devices.{Told}
+use Rattle.byte_io.specs.Devices.{IfKnown}
 use Rattle.lit_base.specs.declared.fault.Fault.{Fault}
 use Rattle.lit_base.specs.declared.fault.Fault.TheVariants.{OutOfMemory, TooManyPatterns, LiteralTooLong, TooManyLiterals, ListTooLarge}
 use Rattle.line_pick.proofs.Standing.{standing}
@@ -25,10 +25,10 @@ use Rattle.grep_run.specs.Requests.{tested_by}
 use Rattle.grep_run.specs.Running.{RunsTo, Ends, OverInputs, OverPatterns, Starved}
 use Rattle.grep_run.specs.Searching.{SearchesAll}
 use Rattle.grep_run.specs.Sources.{found}
-use Rattle.grep_run.specs.Writers.{Writer, Writes, WritesFront, is_write_fault}
-use Rattle.byte_io.proofs.ToldLemmas.{Told-then, Told-weaker}
+use Rattle.grep_run.specs.Writers.{Writer, Writes, WritesPrefix, is_write_fault}
+use Rattle.byte_io.proofs.KnownLemmas.{IfKnown-then, IfKnown-weaker}
 use Rattle.byte_io.proofs.OpenerLemmas.{after_all-append, short-after_all}
-use Rattle.grep_run.proofs.WriterLemmas.{Writes-nil, WritesFront-nothing}
+use Rattle.grep_run.proofs.WriterLemmas.{Writes-nil, WritesPrefix-nothing}
 
 -- tests that agree on each line are one
 same-function : (f h : List ℕ → Bool) → ((line : List ℕ) → f line ≡ h line) → f ≡ h
@@ -62,20 +62,20 @@ module _ (o : GrepOptions) (s mid left : Sources) (compiled : CompiledPatterns) 
 
 -- the run where its inputs were searched
 pub answers-searched : (o : GrepOptions) (known mid left : Option Sources) (compiled : CompiledPatterns) (what : Found) (status : Status) (out_old out_new err_old err_new : Writer)
-    → status ≡ status_where o.quiet what.is_selected what.is_error → Told known mid (λ s m. AreShort s → HasPatterns o s m compiled)
-    → Told mid left (λ m l. AreShort m → SearchesAll o (tested_by o compiled) (searched o (tested_by o compiled) (found (searched_of o) m)) m l (Ok what) out_old out_new err_old err_new)
-    → Told known left (λ s l. AreShort s → RunsTo o s l (Ok status) out_old out_new err_old err_new)
+    → status ≡ status_where o.quiet what.is_selected what.is_error → IfKnown known mid (λ s m. AreShort s → HasPatterns o s m compiled)
+    → IfKnown mid left (λ m l. AreShort m → SearchesAll o (tested_by o compiled) (searched o (tested_by o compiled) (found (searched_of o) m)) m l (Ok what) out_old out_new err_old err_new)
+    → IfKnown known left (λ s l. AreShort s → RunsTo o s l (Ok status) out_old out_new err_old err_new)
 answers-searched o known mid left compiled what status out_old out_new err_old err_new e p q =
-    Told-then known mid left _ _ (λ s l. AreShort s → RunsTo o s l (Ok status) out_old out_new err_old err_new) p q (λ s m l had all short.
+    IfKnown-then known mid left _ _ (λ s l. AreShort s → RunsTo o s l (Ok status) out_old out_new err_old err_new) p q (λ s m l had all short.
     let h = had short in
     searched-whole o s m l compiled h out_old out_new err_old err_new what status e (same-search o s m l compiled h out_old out_new err_old err_new (Ok what) (all (subst AreShort (sym h.after) (short-after_all (asks (files_asked o s)) s short)))))
 
 pub answers-cut : (o : GrepOptions) (known mid left : Option Sources) (compiled : CompiledPatterns) (stop stop' : Stop) (out_old out_new err_old err_new : Writer)
-    → Told known mid (λ s m. AreShort s → HasPatterns o s m compiled)
-    → Told mid left (λ m l. AreShort m → SearchesAll o (tested_by o compiled) (searched o (tested_by o compiled) (found (searched_of o) m)) m l (Err stop) out_old out_new err_old err_new)
-    → Told known left (λ s l. AreShort s → RunsTo o s l (Err stop') out_old out_new err_old err_new)
+    → IfKnown known mid (λ s m. AreShort s → HasPatterns o s m compiled)
+    → IfKnown mid left (λ m l. AreShort m → SearchesAll o (tested_by o compiled) (searched o (tested_by o compiled) (found (searched_of o) m)) m l (Err stop) out_old out_new err_old err_new)
+    → IfKnown known left (λ s l. AreShort s → RunsTo o s l (Err stop') out_old out_new err_old err_new)
 answers-cut o known mid left compiled stop stop' out_old out_new err_old err_new p q =
-    Told-then known mid left _ _ (λ s l. AreShort s → RunsTo o s l (Err stop') out_old out_new err_old err_new) p q (λ s m l had all short.
+    IfKnown-then known mid left _ _ (λ s l. AreShort s → RunsTo o s l (Err stop') out_old out_new err_old err_new) p q (λ s m l had all short.
     let h = had short in
     OverInputs h.message (same-search o s m l compiled h out_old out_new err_old err_new (Err stop) (all (subst AreShort (sym h.after) (short-after_all (asks (files_asked o s)) s short)))))
 
@@ -102,7 +102,7 @@ refused-whole o s left why out {err_old} {err_new} p q =
       p.after q.memory ∙ ap (λ made. after_all made s) (sym (asks-refused o s (text_of why) message)),
       record {
         output = subst (λ a. Writes out out a.output) same (Writes-nil out);
-        messages = subst (λ a. Writes err_old err_new a.messages) same q.told;
+        messages = subst (λ a. Writes err_old err_new a.messages) same q.reported;
         answer = trouble o.quiet ∙ ap (λ a. status_where o.quiet a.has_selected a.has_error) same;
       },
     )
@@ -132,48 +132,48 @@ memory-not : (why : NoPatterns) → is_memory_of why ≡ false → why ≢ Refus
 unfolding is_memory_of is_memory
 memory-not why e same = let both : true ≡ false = sym (ap is_memory_of same) ∙ e in (cc)
 
--- a front of the message stands there
-message-front : (o : GrepOptions) (s left : Sources) (why : NoPatterns) (is_memory : Bool) {err_old err_new : Writer} → LacksPatterns o s left why → IsRefusalCut why err_old err_new → is_memory_of why ≡ is_memory
-    → WritesFront err_old err_new (unwrap_or (patterns_message o s) [])
-message-front o s left why true {err_old} {err_new} p q e = WritesFront-nothing err_old err_new _ (q.untold (memory-is why e))
-message-front o s left why false {err_old} {err_new} p q e =
-    subst (λ m. WritesFront err_old err_new (unwrap_or m [])) (sym (message-of why (patterns_message o s) (memory-not why e) p.message)) q.front
+-- a prefix of the message stands there
+message-prefix : (o : GrepOptions) (s left : Sources) (why : NoPatterns) (is_memory : Bool) {err_old err_new : Writer} → LacksPatterns o s left why → IsRefusalCut why err_old err_new → is_memory_of why ≡ is_memory
+    → WritesPrefix err_old err_new (unwrap_or (patterns_message o s) [])
+message-prefix o s left why true {err_old} {err_new} p q e = WritesPrefix-nothing err_old err_new _ (q.unreported (memory-is why e))
+message-prefix o s left why false {err_old} {err_new} p q e =
+    subst (λ m. WritesPrefix err_old err_new (unwrap_or m [])) (sym (message-of why (patterns_message o s) (memory-not why e) p.message)) q.prefix
 
 refused-cut : (o : GrepOptions) (s left : Sources) (why : NoPatterns) (stop : Stop) (out : Writer) {err_old err_new : Writer} → LacksPatterns o s left why → IsRefusalCut why err_old err_new
     → RunsTo o s left (Err stop) out out err_old err_new
-refused-cut o s left why stop out p q = OverPatterns (record { asked = p.front; output = Writes-nil out; messages = message-front o s left why (is_memory_of why) p q refl })
+refused-cut o s left why stop out p q = OverPatterns (record { asked = p.prefix; output = Writes-nil out; messages = message-prefix o s left why (is_memory_of why) p q refl })
 
 pub answers-refused : (o : GrepOptions) (known left : Option Sources) (why : NoPatterns) (r : Result Status Stop) (out err_old err_new : Writer) → IfOk r (λ status. status ≡ Trouble)
-    → Told known left (λ s l. AreShort s → LacksPatterns o s l why) → Refuses why r err_old err_new → Told known left (λ s l. AreShort s → RunsTo o s l r out out err_old err_new)
+    → IfKnown known left (λ s l. AreShort s → LacksPatterns o s l why) → Refuses why r err_old err_new → IfKnown known left (λ s l. AreShort s → RunsTo o s l r out out err_old err_new)
 answers-refused o known left why (Ok status) out err_old err_new e p q =
-    Told-weaker known left _ (λ s l. AreShort s → RunsTo o s l (Ok status) out out err_old err_new) p (λ s l lacks short.
+    IfKnown-weaker known left _ (λ s l. AreShort s → RunsTo o s l (Ok status) out out err_old err_new) p (λ s l lacks short.
     subst (λ st. RunsTo o s l (Ok st) out out err_old err_new) (sym e) (refused-whole o s l why out (lacks short) q))
 answers-refused o known left why (Err stop) out err_old err_new e p q =
-    Told-weaker known left _ (λ s l. AreShort s → RunsTo o s l (Err stop) out out err_old err_new) p (λ s l lacks short. refused-cut o s l why stop out (lacks short) q)
+    IfKnown-weaker known left _ (λ s l. AreShort s → RunsTo o s l (Err stop) out out err_old err_new) p (λ s l lacks short. refused-cut o s l why stop out (lacks short) q)
 
 -- a call that failed set the flag
 set-flag : {T : Type 0} (r : Result T Stop) (before after : Bool) → r ≡ Err stop.WriteFault → after ≡ (before || is_write_fault r) → after ≡ true
 set-flag r before after fault flag = flag ∙ ap (λ x. before || is_write_fault x) fault ∙ or-true before
 
--- the message on want of memory is written, or a front of it where its writing failed
-last-message : (r : Result (Unit {0}) Stop) (between err_new : Writer) → OnOk r (Writes between err_new out_of_memory) → OnErr r (WritesFront between err_new out_of_memory)
+-- the message on want of memory is written, or a prefix of it where its writing failed
+last-message : (r : Result (Unit {0}) Stop) (between err_new : Writer) → OnOk r (Writes between err_new out_of_memory) → OnErr r (WritesPrefix between err_new out_of_memory)
     → OnErr r (r ≡ Err stop.WriteFault) → err_new.has_failed ≡ (between.has_failed || is_write_fault r)
-    → Writes between err_new out_of_memory ⊎ ((err_new.has_failed ≡ true) × WritesFront between err_new out_of_memory)
-last-message (Ok u) between err_new whole front fault flag = inl whole
-last-message (Err e) between err_new whole front fault flag = inr (set-flag (Err e) between.has_failed err_new.has_failed fault flag, front)
+    → Writes between err_new out_of_memory ⊎ ((err_new.has_failed ≡ true) × WritesPrefix between err_new out_of_memory)
+last-message (Ok u) between err_new whole prefix fault flag = inl whole
+last-message (Err e) between err_new whole prefix fault flag = inr (set-flag (Err e) between.has_failed err_new.has_failed fault flag, prefix)
 
 -- the end of a run for want of memory
 pub ends-starved : (o : GrepOptions) (known left : Option Sources) (why : Stop) (r : Result (Unit {0}) Stop) (out_old out_new err_old between err_new : Writer) → why ≡ stop.OutOfMemory
-    → Told known left (λ s l. AreShort s → RunsTo o s l (Err why) out_old out_new err_old between)
+    → IfKnown known left (λ s l. AreShort s → RunsTo o s l (Err why) out_old out_new err_old between)
     → (out_new.has_failed || between.has_failed) ≡ (out_old.has_failed || err_old.has_failed || is_write_fault {T = Status} (Err why))
-    → OnOk r (Writes between err_new out_of_memory) → OnErr r (WritesFront between err_new out_of_memory) → OnErr r (r ≡ Err stop.WriteFault)
+    → OnOk r (Writes between err_new out_of_memory) → OnErr r (WritesPrefix between err_new out_of_memory) → OnErr r (r ≡ Err stop.WriteFault)
     → err_new.has_failed ≡ (between.has_failed || is_write_fault r)
-    → Told known left (λ s l. AreShort s → Ends o s l Trouble out_old out_new err_old err_new)
-ends-starved o known left why r out_old out_new err_old between err_new memory p flags whole front fault flag =
-    Told-weaker known left _ (λ s l. AreShort s → Ends o s l Trouble out_old out_new err_old err_new) p (λ s l h short.
+    → IfKnown known left (λ s l. AreShort s → Ends o s l Trouble out_old out_new err_old err_new)
+ends-starved o known left why r out_old out_new err_old between err_new memory p flags whole prefix fault flag =
+    IfKnown-weaker known left _ (λ s l. AreShort s → Ends o s l Trouble out_old out_new err_old err_new) p (λ s l h short.
     Starved refl (record {
       between = between;
       stopped = h short;
       sound = flags ∙ ap (λ s. out_old.has_failed || err_old.has_failed || is_write_fault {T = Status} (Err s)) memory ∙ or-false (out_old.has_failed || err_old.has_failed);
-      told = last-message r between err_new whole front fault flag;
+      reported = last-message r between err_new whole prefix fault flag;
     }))

@@ -2,9 +2,9 @@
 use Rattle.std.proofs.Common.{◌≡◌, ◌≢◌, ℕ, ◌+◌, ◌<◌, true, cond, String, string_bytes, length, get_or, drop, List, [], ◌∷◌, ◌++◌, map, flat_map, Option, None, Some, is_some, refl, sym, ap, ◌∙◌, subst, append_assoc}
 use Rattle.std.specs.Option.{option_map}
 use Rattle.std.proofs.lemmas.List.{drop_more}
-use Rattle.byte_io.specs.Devices.{Told}
+use Rattle.byte_io.specs.Devices.{IfKnown}
 use Rattle.byte_io.specs.Sources.{AreShort, Ask, Named, Sources, after, after_all, source_of}
-use Rattle.byte_io.proofs.ToldLemmas.{Told-then, Told-weaker}
+use Rattle.byte_io.proofs.KnownLemmas.{IfKnown-then, IfKnown-weaker}
 use Rattle.byte_io.proofs.OpenerLemmas.{after_all-one, short-after}
 use Rattle.lit_base.specs.declared.fault.Fault.{Fault}
 use Rattle.lit_base.specs.declared.fault.Fault.TheVariants.{OutOfMemory}
@@ -29,7 +29,7 @@ pub record FilesSoFar (old now : List (List ℕ)) (all rest : List Ask) (s left 
   pub message : files_message old (found all s) ≡ files_message now (found rest left)
   pub patterns : old ++ all_from (found all s) ≡ now ++ all_from (found rest left)
   pub made : List Ask
-  pub front : asks (files_read old (found all s)) ≡ made ++ asks (files_read now (found rest left))
+  pub prefix : asks (files_read old (found all s)) ≡ made ++ asks (files_read now (found rest left))
   pub after : left ≡ after_all made s
   pub short : AreShort left
 
@@ -60,7 +60,7 @@ FilesSoFar-more {old} {now} {all} {s} {mid} new name rest left p e none grown =
       message = p.message ∙ following-none _ _ none ∙ ap (λ ps. files_message ps following) (sym grown) ∙ ap (files_message new) same;
       patterns = p.patterns ∙ sym (append_assoc now (patterns_from (source_of name mid.named)) (all_from following)) ∙ ap (λ ps. ps ++ all_from following) (sym grown) ∙ ap (λ fs. new ++ all_from fs) same;
       made = p.made ++ Named name ∷ [];
-      front = p.front ∙ ap (λ fs. p.made ++ (Named name ∷ asks fs)) (rest-read _ (files_read more following) none ∙ ap (λ ps. files_read ps following) (sym grown) ∙ ap (files_read new) same)
+      prefix = p.prefix ∙ ap (λ fs. p.made ++ (Named name ∷ asks fs)) (rest-read _ (files_read more following) none ∙ ap (λ ps. files_read ps following) (sym grown) ∙ ap (files_read new) same)
           ∙ made-more p.made (Named name) (asks (files_read new (found rest left)));
       after = e ∙ ap (after (Named name)) p.after ∙ sym (after_all-one p.made (Named name) s);
       short = subst AreShort (sym e) (short-after (Named name) mid p.short);
@@ -86,15 +86,15 @@ FilesSoFar-stop {old} {now} {all} {s} {mid} name rest left why p e explains =
     let here : left ≡ after_all (p.made ++ Named name ∷ []) s = e ∙ ap (after (Named name)) p.after ∙ sym (after_all-one p.made (Named name) s) in
     record {
       message = subst (Explains why) (sym p.message) (Explains-first why message _ explains);
-      front = record {
+      prefix = record {
         made = p.made ++ Named name ∷ [];
         rest = asks (cond (is_some message) [] following);
-        parts = p.front ∙ made-more p.made (Named name) (asks (cond (is_some message) [] following));
+        parts = p.prefix ∙ made-more p.made (Named name) (asks (cond (is_some message) [] following));
         after = here;
       };
       after = λ other.
           let last : asks (files_read old (found all s)) ≡ p.made ++ Named name ∷ [] =
-          p.front ∙ ap (λ b. p.made ++ (Named name ∷ asks (cond b [] following))) (has-message why message other explains) in
+          p.prefix ∙ ap (λ b. p.made ++ (Named name ∷ asks (cond b [] following))) (has-message why message other explains) in
           here ∙ ap (λ made. after_all made s) (sym last);
     }
 
@@ -128,30 +128,30 @@ asks-at files place file name inside at same =
 
 -- the loop goes on
 pub files-more : (known mid left : Option Sources) (old now new : List (List ℕ)) (name : List ℕ) (all : List Ask) {here rest : List Ask} → here ≡ Named name ∷ rest
-    → Told known mid (λ s m. AreShort s → FilesSoFar old now all here s m)
-    → Told mid left (λ m l. AreShort m → (l ≡ after (Named name) m) × ((content_message now name (source_of name m.named) ≡ None) × (new ≡ now ++ patterns_from (source_of name m.named))))
-    → Told known left (λ s l. AreShort s → FilesSoFar old new all rest s l)
+    → IfKnown known mid (λ s m. AreShort s → FilesSoFar old now all here s m)
+    → IfKnown mid left (λ m l. AreShort m → (l ≡ after (Named name) m) × ((content_message now name (source_of name m.named) ≡ None) × (new ≡ now ++ patterns_from (source_of name m.named))))
+    → IfKnown known left (λ s l. AreShort s → FilesSoFar old new all rest s l)
 files-more known mid left old now new name all {here} {rest} e before step =
-    Told-then known mid left _ _ (λ s l. AreShort s → FilesSoFar old new all rest s l) before step (λ s m l p q short.
+    IfKnown-then known mid left _ _ (λ s l. AreShort s → FilesSoFar old new all rest s l) before step (λ s m l p q short.
     let so_far : FilesSoFar old now all (Named name ∷ rest) s m = subst (λ asks. FilesSoFar old now all asks s m) e (p short) in
     let taken = q so_far.short in
     FilesSoFar-more new name rest l so_far taken.0 taken.1.0 taken.1.1)
 
 -- and it stops
 pub files-stop : (known mid left : Option Sources) (old now : List (List ℕ)) (name : List ℕ) (all : List Ask) {here rest : List Ask} (why : NoPatterns) → here ≡ Named name ∷ rest
-    → Told known mid (λ s m. AreShort s → FilesSoFar old now all here s m)
-    → Told mid left (λ m l. AreShort m → (l ≡ after (Named name) m) × Explains why (content_message now name (source_of name m.named)))
-    → Told known left (λ s l. AreShort s → StopsAtFile old s l (found all s) why)
+    → IfKnown known mid (λ s m. AreShort s → FilesSoFar old now all here s m)
+    → IfKnown mid left (λ m l. AreShort m → (l ≡ after (Named name) m) × Explains why (content_message now name (source_of name m.named)))
+    → IfKnown known left (λ s l. AreShort s → StopsAtFile old s l (found all s) why)
 files-stop known mid left old now name all {here} {rest} why e before step =
-    Told-then known mid left _ _ (λ s l. AreShort s → StopsAtFile old s l (found all s) why) before step (λ s m l p q short.
+    IfKnown-then known mid left _ _ (λ s l. AreShort s → StopsAtFile old s l (found all s) why) before step (λ s m l p q short.
     let so_far : FilesSoFar old now all (Named name ∷ rest) s m = subst (λ asks. FilesSoFar old now all asks s m) e (p short) in
     let taken = q so_far.short in
     FilesSoFar-stop name rest l why so_far taken.0 taken.1)
 
 -- all patterns are had
 pub had-all : (o : GrepOptions) (known left : Option Sources) (start patterns : List (List ℕ)) (compiled : CompiledPatterns) → lists_refusal [] (lists_of o) ≡ None → start ≡ patterns_in (lists_of o)
-    → Told known left (λ s l. AreShort s → TakesAllFiles start patterns s l (pattern_files o s)) → StandsFor o.fold patterns compiled.plan compiled.has_empty
-    → Told known left (λ s l. AreShort s → HasPatterns o s l compiled)
+    → IfKnown known left (λ s l. AreShort s → TakesAllFiles start patterns s l (pattern_files o s)) → StandsFor o.fold patterns compiled.plan compiled.has_empty
+    → IfKnown known left (λ s l. AreShort s → HasPatterns o s l compiled)
 had-all o known left start patterns compiled none e taken stands =
-    Told-weaker known left _ (λ s l. AreShort s → HasPatterns o s l compiled) taken (λ s l t short.
+    IfKnown-weaker known left _ (λ s l. AreShort s → HasPatterns o s l compiled) taken (λ s l t short.
     patterns-had o s l patterns compiled none (subst (λ ps. TakesAllFiles ps patterns s l (pattern_files o s)) e (t short)) stands)

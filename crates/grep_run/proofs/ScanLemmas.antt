@@ -8,7 +8,7 @@ use Rattle.std.proofs.lemmas.List.FromFn.{length-enumerate_from}
 use Rattle.std.proofs.lemmas.List.Sums.{count_by-le-length, length-filter}
 use Rattle.std.specs.List.{enumerate_from}
 use Rattle.std.specs.Prelude.{nat_lt}
-use Rattle.byte_io.specs.Devices.{Coming, EndsHere, Ending, Faulty, MayFail, ReadGives, Told}
+use Rattle.byte_io.specs.Devices.{Coming, EndsHere, Ending, Faulty, MayFail, ReadGives, IfKnown}
 use Rattle.byte_io.specs.Devices as Devices
 use Rattle.byte_io.specs.declared.device.Failed.{Failed}
 use Rattle.lit_base.specs.Lines.{ended_lines, last_line, lines, open_rest}
@@ -37,9 +37,9 @@ use Rattle.grep_run.specs.Growing.{IsSameBlock, TakesLine, added_line, are_shown
 use Rattle.grep_run.specs.Scanning.{FeedsPiece, picked_by, HasFed, HasRead, HasTaken, IsHalted, StandsAfter, ended_in, is_fault}
 use Rattle.grep_run.specs.declared.request.End.{End}
 use Rattle.grep_run.specs.Searching.{IsCut, IsSearched}
-use Rattle.grep_run.specs.Writers.{Writer, Writes, WritesFront}
+use Rattle.grep_run.specs.Writers.{Writer, Writes, WritesPrefix}
 use Rattle.grep_run.proofs.BlockLemmas.{HasMore, any-after, block-parts, ending-any, emitted-more, emitted-stop, emitted-stop-text, emitted-unseen, takes-bare, wants-none}
-use Rattle.grep_run.proofs.WriterLemmas.{Writes-nil, Writes-trans, WritesFront-all, WritesFront-after, WritesFront-more, WritesFront-none, apart}
+use Rattle.grep_run.proofs.WriterLemmas.{Writes-nil, Writes-trans, WritesPrefix-all, WritesPrefix-after, WritesPrefix-more, WritesPrefix-none, apart}
 
 -- the selected lines among lines that follow a text
 abbrev pub picked_after : (List ℕ → Bool) → List ℕ → List (List ℕ) → List (ℕ × List ℕ)
@@ -178,18 +178,18 @@ module _ {o : GrepOptions} {test : List ℕ → Bool} {name text : List ℕ} (pi
   all-added : flat_map (added_line o name) (ended_in test (text ++ piece)) ≡ flat_map (added_line o name) (ended_in test text) ++ flat_map (added_line o name) (picked_after test text (ended_lines (open_rest text ++ piece)))
   all-added = added-all o name (ended_in test text) (picked_after test text (ended_lines (open_rest text ++ piece))) (ended_in test (text ++ piece)) piece-lines
 
-  -- where their writing is cut, a front of all is written
-  pub fed-cut : (further : Writer) → Feeds TakesLine p piece b (Ok More) new_p mid → WritesFront now further mid.text.items
-      → WritesFront before further (flat_map (added_line o name) (ended_in test (text ++ piece)))
+  -- where their writing is cut, a prefix of all is written
+  pub fed-cut : (further : Writer) → Feeds TakesLine p piece b (Ok More) new_p mid → WritesPrefix now further mid.text.items
+      → WritesPrefix before further (flat_map (added_line o name) (ended_in test (text ++ piece)))
   fed-cut further f cut =
       let m = emitted-more o name (more-lines f) s.taken.options s.taken.called in
-      subst (WritesFront before further) (sym all-added)
-      (WritesFront-after before now further _ _ s.taken.written (subst (WritesFront now further) (held-lines o name (ended_in test text) (picked_after test text (ended_lines (open_rest text ++ piece))) b mid before now s.taken m) cut))
+      subst (WritesPrefix before further) (sym all-added)
+      (WritesPrefix-after before now further _ _ s.taken.written (subst (WritesPrefix now further) (held-lines o name (ended_in test text) (picked_after test text (ended_lines (open_rest text ++ piece))) b mid before now s.taken m) cut))
 
-  -- where memory runs out, the text written is a front of all
-  pub fed-starved : WritesFront before now (flat_map (added_line o name) (ended_in test (text ++ piece)))
-  fed-starved = subst (WritesFront before now) (sym all-added)
-      (WritesFront-more before now (flat_map (added_line o name) (ended_in test text)) (flat_map (added_line o name) (picked_after test text (ended_lines (open_rest text ++ piece)))) (WritesFront-all before now _ s.taken.written))
+  -- where memory runs out, the text written is a prefix of all
+  pub fed-starved : WritesPrefix before now (flat_map (added_line o name) (ended_in test (text ++ piece)))
+  fed-starved = subst (WritesPrefix before now) (sym all-added)
+      (WritesPrefix-more before now (flat_map (added_line o name) (ended_in test text)) (flat_map (added_line o name) (picked_after test text (ended_lines (open_rest text ++ piece)))) (WritesPrefix-all before now _ s.taken.written))
 
   -- where no line is wanted any more, one was taken
   stopped-lines : Feeds TakesLine p piece b (Ok Stop) new_p mid → Emitted TakesLine b (picked_after test text (ended_lines (open_rest text ++ piece))) (Ok Stop) mid
@@ -266,16 +266,16 @@ read-halted o test name c b before out came more e h =
       error = sym (ap (λ w. c.is_faulty && not (w && has_any (numbered test 0 (lines_of c)))) wanted ∙ ap (λ a. c.is_faulty && not a) any ∙ and-false c.is_faulty);
     }
 
--- the text written is a front of the block
-pub read-front : (o : GrepOptions) (test : List ℕ → Bool) (name : List ℕ) (c : Content) (before out : Writer) (came more : List (ℕ × List ℕ)) → numbered test 0 (lines_of c) ≡ came ++ more
-    → WritesFront before out (flat_map (added_line o name) came) → WritesFront before out (block_in o test name (Some c))
-read-front o test name c before out came more e p =
+-- the text written is a prefix of the block
+pub read-prefix : (o : GrepOptions) (test : List ℕ → Bool) (name : List ℕ) (c : Content) (before out : Writer) (came more : List (ℕ × List ℕ)) → numbered test 0 (lines_of c) ≡ came ++ more
+    → WritesPrefix before out (flat_map (added_line o name) came) → WritesPrefix before out (block_in o test name (Some c))
+read-prefix o test name c before out came more e p =
     let all = numbered test 0 (lines_of c) in
     let tail = flat_map (added_line o name) more ++ ending_of o name (length all) in
     let parts : block_of o name all ≡ flat_map (added_line o name) came ++ tail =
     sym (block-parts o name all) ∙ ap (λ t. t ++ ending_of o name (length all)) (added-all o name came more all e)
     ∙ append_assoc (flat_map (added_line o name) came) (flat_map (added_line o name) more) (ending_of o name (length all)) in
-    subst (WritesFront before out) (sym parts) (WritesFront-more before out (flat_map (added_line o name) came) tail p)
+    subst (WritesPrefix before out) (sym parts) (WritesPrefix-more before out (flat_map (added_line o name) came) tail p)
 
 -- the answer is the known answer
 pub feeds-as : {p new_p : Picking} {b new_b : Block} {piece : List ℕ} {answer known : Next} → answer ≡ known → Feeds TakesLine p piece b (Ok answer) new_p new_b → Feeds TakesLine p piece b (Ok known) new_p new_b
@@ -317,8 +317,8 @@ module _ {o : GrepOptions} {test : List ℕ → Bool} {name : List ℕ} (c : Con
         empty = emitted-stop-text o name (emitted-last s f.emitted) s.taken.options s.taken.called ∙ ap (λ (held : List ℕ). held ++ []) s.taken.empty;
       })
 
-  pub ended-starved : WritesFront before now (block_in o test name (Some c))
-  ended-starved = read-front o test name c before now (ended_in test c.text) (picked_after test c.text (last_line (open_rest c.text))) clean-numbered (WritesFront-all before now _ s.taken.written)
+  pub ended-starved : WritesPrefix before now (block_in o test name (Some c))
+  ended-starved = read-prefix o test name c before now (ended_in test c.text) (picked_after test c.text (last_line (open_rest c.text))) clean-numbered (WritesPrefix-all before now _ s.taken.written)
 
 -- whether lines come to an end at the last one
 pub ended-any : {o : GrepOptions} {test : List ℕ → Bool} {name : List ℕ} (c : Content) {p : Picking} (new_p : Picking) {b : Block} (new : Block) {before now : Writer} (answer : Next)
@@ -342,13 +342,13 @@ read-fault {o} {test} {name} c {p} {b} {before} {now} faulty short s =
     Fault (sym (ap (λ f. f && not ((o.quiet || o.list) && has_any (numbered test 0 (lines_of c)))) faulty ∙ ap (λ ls. not ((o.quiet || o.list) && has_any (numbered test 0 ls))) lines-are
     ∙ not-ended o.quiet o.list (ended_in test c.text) s.taken.unwanted))
 
-known-step : {T : Type 0} (b : Option T) (P : T → T → Type 0) (x : T) → Told (Some x) b P → (y : T) × ((b ≡ Some y) × P x y)
+known-step : {T : Type 0} (b : Option T) (P : T → T → Type 0) (x : T) → IfKnown (Some x) b P → (y : T) × ((b ≡ Some y) × P x y)
 known-step None P x t = absurd t
 known-step (Some y) P x t = (y, (refl, t))
 
 -- the value after a step, where the value before is known
-told-at : {T : Type 0} (a b : Option T) (P : T → T → Type 0) (x : T) → Told a b P → a ≡ Some x → (y : T) × ((b ≡ Some y) × P x y)
-told-at a b P x t e = known-step b P x (subst (λ k. Told k b P) e t)
+reported-at : {T : Type 0} (a b : Option T) (P : T → T → Type 0) (x : T) → IfKnown a b P → a ≡ Some x → (y : T) × ((b ≡ Some y) × P x y)
+reported-at a b P x t e = known-step b P x (subst (λ k. IfKnown k b P) e t)
 
 -- the bytes so far of a content are dealt with, and the rest remains
 pub record ReadSoFar (o : GrepOptions) (test : List ℕ → Bool) (name : List ℕ) (c : Content) (coming : Option Coming) (p : Picking) (b : Block) (turn : ℕ) (before now : Writer) : Type 0 where
@@ -363,17 +363,17 @@ pub record ReadSoFar (o : GrepOptions) (test : List ℕ → Bool) (name : List �
 same-coming : (y : Coming) (is_faulty : Bool) → y.ending ≡ cond is_faulty Faulty (Devices.Clean) → y ≡ coming_of (record { text = y.text; is_faulty = is_faulty })
 same-coming y is_faulty e = ap (λ (ending : Ending). let same : Coming = record { text = y.text; ending = ending } in same) e
 
--- the lines of a content that a front of its text ends come first
-lines-front : (test : List ℕ → Bool) (c : Content) (front rest : List ℕ) → c.text ≡ front ++ rest → (more : List (ℕ × List ℕ)) × (numbered test 0 (lines_of c) ≡ ended_in test front ++ more)
-lines-front test c front rest e =
-    let after : List (List ℕ) = ended_lines (open_rest front ++ rest) in
-    let ended : ended_lines c.text ≡ ended_lines front ++ after = ap ended_lines e ∙ ended_lines-append front rest in
-    elim c.is_faulty as (λ f. (more : List (ℕ × List ℕ)) × (numbered test 0 (cond f (ended_lines c.text) (lines c.text)) ≡ ended_in test front ++ more)) [
-      | true ↦ (numbered test (0 + length (ended_lines front)) after, ap (numbered test 0) ended ∙ numbered-append test 0 (ended_lines front) after)
+-- the lines of a content that a prefix of its text ends come first
+lines-prefix : (test : List ℕ → Bool) (c : Content) (prefix rest : List ℕ) → c.text ≡ prefix ++ rest → (more : List (ℕ × List ℕ)) × (numbered test 0 (lines_of c) ≡ ended_in test prefix ++ more)
+lines-prefix test c prefix rest e =
+    let after : List (List ℕ) = ended_lines (open_rest prefix ++ rest) in
+    let ended : ended_lines c.text ≡ ended_lines prefix ++ after = ap ended_lines e ∙ ended_lines-append prefix rest in
+    elim c.is_faulty as (λ f. (more : List (ℕ × List ℕ)) × (numbered test 0 (cond f (ended_lines c.text) (lines c.text)) ≡ ended_in test prefix ++ more)) [
+      | true ↦ (numbered test (0 + length (ended_lines prefix)) after, ap (numbered test 0) ended ∙ numbered-append test 0 (ended_lines prefix) after)
       | false ↦ (
-        numbered test (0 + length (ended_lines front)) (after ++ last_line (open_rest c.text)),
-        ap (numbered test 0) (lines-ended_open c.text ∙ ap (λ ls. ls ++ last_line (open_rest c.text)) ended ∙ append_assoc (ended_lines front) after (last_line (open_rest c.text)))
-            ∙ numbered-append test 0 (ended_lines front) (after ++ last_line (open_rest c.text)),
+        numbered test (0 + length (ended_lines prefix)) (after ++ last_line (open_rest c.text)),
+        ap (numbered test 0) (lines-ended_open c.text ∙ ap (λ ls. ls ++ last_line (open_rest c.text)) ended ∙ append_assoc (ended_lines prefix) after (last_line (open_rest c.text)))
+            ∙ numbered-append test 0 (ended_lines prefix) (after ++ last_line (open_rest c.text)),
       )
     ]
 
@@ -393,27 +393,27 @@ module _ {o : GrepOptions} {test : List ℕ → Bool} {name : List ℕ} {c : Con
   all-done none = subst (λ t. StandsAfter o test name t p b before now) (sym (r.parts ∙ ap (λ t. r.done ++ t) none ∙ append-nil r.done)) r.stands
 
   -- a read that fails
-  pub so_far-fault : (error : Failed) → Told coming later (λ x y. ReadGives x y (Err error) buf) → IsShort c → HasRead o test name c Fault b before now
+  pub so_far-fault : (error : Failed) → IfKnown coming later (λ x y. ReadGives x y (Err error) buf) → IsShort c → HasRead o test name c Fault b before now
   so_far-fault error t short =
-      let step = told-at coming later _ _ t r.left in
+      let step = reported-at coming later _ _ t r.left in
       let ends = faulty-ending c.is_faulty r.rest step.1.1.0 in
       read-fault c ends.0 short (all-done ends.1)
 
   -- a read that finds the end
-  pub so_far-end : (count : ℕ) → count ≡ 0 → 0 < length buf → Told coming later (λ x y. ReadGives x y (Ok count) buf) → (c.is_faulty ≡ false) × StandsAfter o test name c.text p b before now
+  pub so_far-end : (count : ℕ) → count ≡ 0 → 0 < length buf → IfKnown coming later (λ x y. ReadGives x y (Ok count) buf) → (c.is_faulty ≡ false) × StandsAfter o test name c.text p b before now
   so_far-end count none room t =
-      let step = told-at coming later _ _ t r.left in
+      let step = reported-at coming later _ _ t r.left in
       let ends = clean-ending c.is_faulty r.rest (step.1.1.1 none room) in
       (ends.0, all-done ends.1)
 
   -- the bytes after a read, and the rest of them
-  pub so_far-rest : (count : ℕ) → Told coming later (λ x y. ReadGives x y (Ok count) buf) → (rest : List ℕ) × ((r.rest ≡ take count buf ++ rest) × (later ≡ Some (coming_of (record { text = rest; is_faulty = c.is_faulty }))))
+  pub so_far-rest : (count : ℕ) → IfKnown coming later (λ x y. ReadGives x y (Ok count) buf) → (rest : List ℕ) × ((r.rest ≡ take count buf ++ rest) × (later ≡ Some (coming_of (record { text = rest; is_faulty = c.is_faulty }))))
   so_far-rest count t =
-      let step = told-at coming later _ _ t r.left in
+      let step = reported-at coming later _ _ t r.left in
       (step.0.text, (step.1.1.0.text, step.1.0 ∙ ap Some (same-coming step.0 c.is_faulty step.1.1.0.ending)))
 
   -- one piece more
-  pub so_far-more : (count : ℕ) (new_p : Picking) (new : Block) (further : Writer) → Told coming later (λ x y. ReadGives x y (Ok count) buf) → 0 < count → count ≤ length buf
+  pub so_far-more : (count : ℕ) (new_p : Picking) (new : Block) (further : Writer) → IfKnown coming later (λ x y. ReadGives x y (Ok count) buf) → 0 < count → count ≤ length buf
       → StandsAfter o test name (r.done ++ take count buf) new_p new before further → ReadSoFar o test name c later new_p new (turn + 1) before further
   so_far-more count new_p new further t some within s =
       let found = so_far-rest count t in
@@ -427,33 +427,33 @@ module _ {o : GrepOptions} {test : List ℕ → Bool} {name : List ℕ} {c : Con
       }
 
   -- all selected lines, after the lines of the bytes up to one piece more
-  front-of-all : (piece rest : List ℕ) → r.rest ≡ piece ++ rest → (more : List (ℕ × List ℕ)) × (numbered test 0 (lines_of c) ≡ ended_in test (r.done ++ piece) ++ more)
-  front-of-all piece rest e = lines-front test c (r.done ++ piece) rest (r.parts ∙ ap (λ x. r.done ++ x) e ∙ sym (append_assoc r.done piece rest))
+  prefix-of-all : (piece rest : List ℕ) → r.rest ≡ piece ++ rest → (more : List (ℕ × List ℕ)) × (numbered test 0 (lines_of c) ≡ ended_in test (r.done ++ piece) ++ more)
+  prefix-of-all piece rest e = lines-prefix test c (r.done ++ piece) rest (r.parts ∙ ap (λ x. r.done ++ x) e ∙ sym (append_assoc r.done piece rest))
 
   -- a piece after which no line is wanted
-  pub so_far-halted : (count : ℕ) (new : Block) (further : Writer) → Told coming later (λ x y. ReadGives x y (Ok count) buf)
+  pub so_far-halted : (count : ℕ) (new : Block) (further : Writer) → IfKnown coming later (λ x y. ReadGives x y (Ok count) buf)
       → IsHalted o name (ended_in test (r.done ++ take count buf)) new before further → HasRead o test name c Clean new before further
   so_far-halted count new further t h =
       let found = so_far-rest count t in
-      let front = front-of-all (take count buf) found.0 found.1.0 in
-      read-halted o test name c new before further (ended_in test (r.done ++ take count buf)) front.0 front.1 h
+      let prefix = prefix-of-all (take count buf) found.0 found.1.0 in
+      read-halted o test name c new before further (ended_in test (r.done ++ take count buf)) prefix.0 prefix.1 h
 
   -- a piece that was cut
-  pub so_far-cut : (count : ℕ) (further : Writer) → Told coming later (λ x y. ReadGives x y (Ok count) buf)
-      → WritesFront before further (flat_map (added_line o name) (ended_in test (r.done ++ take count buf))) → WritesFront before further (block_in o test name (Some c))
+  pub so_far-cut : (count : ℕ) (further : Writer) → IfKnown coming later (λ x y. ReadGives x y (Ok count) buf)
+      → WritesPrefix before further (flat_map (added_line o name) (ended_in test (r.done ++ take count buf))) → WritesPrefix before further (block_in o test name (Some c))
   so_far-cut count further t cut =
       let found = so_far-rest count t in
-      let front = front-of-all (take count buf) found.0 found.1.0 in
-      read-front o test name c before further (ended_in test (r.done ++ take count buf)) front.0 front.1 cut
+      let prefix = prefix-of-all (take count buf) found.0 found.1.0 in
+      read-prefix o test name c before further (ended_in test (r.done ++ take count buf)) prefix.0 prefix.1 cut
 
   -- there are never too many bytes
-  pub so_far-long : {A : Type 0} (count : ℕ) → Told coming later (λ x y. ReadGives x y (Ok count) buf) → IsShort c → 2 ^ 64 ≤ length r.done + length (take count buf) → A
+  pub so_far-long : {A : Type 0} (count : ℕ) → IfKnown coming later (λ x y. ReadGives x y (Ok count) buf) → IsShort c → 2 ^ 64 ≤ length r.done + length (take count buf) → A
   so_far-long count t short long =
       let found = so_far-rest count t in
       absurd (omega (arith, ap length r.parts, length-append r.done r.rest, ap length found.1.0, length-append (take count buf) found.0))
 
   -- a piece that is the last one
-  pub so_far-ended : (count : ℕ) (end : End) (piece : List ℕ) (new_p : Picking) (new : Block) (further : Writer) → Told coming later (λ x y. ReadGives x y (Ok count) buf) → IsShort c → piece ≡ take count buf
+  pub so_far-ended : (count : ℕ) (end : End) (piece : List ℕ) (new_p : Picking) (new : Block) (further : Writer) → IfKnown coming later (λ x y. ReadGives x y (Ok count) buf) → IsShort c → piece ≡ take count buf
       → FeedsPiece o test name r.done piece (Ok (Some end)) new_p new before further → HasRead o test name c end new before further
   so_far-ended count Clean piece new_p new further t short e f = so_far-halted count new further t (subst (λ x. IsHalted o name (ended_in test (r.done ++ x)) new before further) e f)
   so_far-ended count Fault piece new_p new further t short e f = so_far-long count t short (subst (λ x. 2 ^ 64 ≤ length r.done + length x) e f)
@@ -520,8 +520,8 @@ begin-stands {o} {test} {name} {p} {b} out f numbers seen options called count e
 
 -- where the block was cut there is no message
 pub search-cut : (o : GrepOptions) (test : List ℕ → Bool) (name : List ℕ) (source : Option Content) (out_old out_new err : Writer)
-    → WritesFront out_old out_new (block_in o test name source) → IsCut o test name source out_old out_new err err
-search-cut o test name source out_old out_new err p = record { output = p; messages = WritesFront-none err (message_in o test name source); quiet = λ clear set. Writes-nil err }
+    → WritesPrefix out_old out_new (block_in o test name source) → IsCut o test name source out_old out_new err err
+search-cut o test name source out_old out_new err p = record { output = p; messages = WritesPrefix-none err (message_in o test name source); quiet = λ clear set. Writes-nil err }
 
 module _ {o : GrepOptions} {test : List ℕ → Bool} {name : List ℕ} {c : Content} {end : End} {b : Block} {before now : Writer} (h : HasRead o test name c end b before now) (further : Writer) where
   -- the text at the end, by the options and the name of all
@@ -532,8 +532,8 @@ module _ {o : GrepOptions} {test : List ℕ → Bool} {name : List ℕ} {c : Con
   end-same = ap (λ p. h.lines ++ (b.text.items ++ ending_of p b.name.now b.count)) h.options ∙ ap (λ n. h.lines ++ (b.text.items ++ ending_of o n b.count)) h.called ∙ h.whole
 
   -- the block that was read, with its end
-  pub finished-cut : (err : Writer) → WritesFront now further ended → IsCut o test name (Some c) before further err err
-  finished-cut err cut = search-cut o test name (Some c) before further err (subst (WritesFront before further) end-same (WritesFront-after before now further h.lines ended h.written cut))
+  pub finished-cut : (err : Writer) → WritesPrefix now further ended → IsCut o test name (Some c) before further err err
+  finished-cut err cut = search-cut o test name (Some c) before further err (subst (WritesPrefix before further) end-same (WritesPrefix-after before now further h.lines ended h.written cut))
 
   finished : Writes now further ended → Writes before further (block_in o test name (Some c))
   finished all = subst (Writes before further) end-same (Writes-trans before now further h.lines ended h.written all)
@@ -542,11 +542,11 @@ module _ {o : GrepOptions} {test : List ℕ → Bool} {name : List ℕ} {c : Con
     same-message : cond (is_error && not o.silent) (unreadable name) [] ≡ message_in o test name (Some c)
     same-message = ap (λ f. cond (f && not o.silent) (unreadable name) []) (error ∙ h.error)
 
-    -- a front of the message was written
-    pub message-cut : WritesFront err_old err_new (cond (is_error && not o.silent) (unreadable name) []) → IsCut o test name (Some c) before further err_old err_new
+    -- a prefix of the message was written
+    pub message-cut : WritesPrefix err_old err_new (cond (is_error && not o.silent) (unreadable name) []) → IsCut o test name (Some c) before further err_old err_new
     message-cut q = record {
-      output = WritesFront-all before further _ (finished all);
-      messages = subst (WritesFront err_old err_new) same-message q;
+      output = WritesPrefix-all before further _ (finished all);
+      messages = subst (WritesPrefix err_old err_new) same-message q;
       quiet = λ clear set. apart further.has_failed set ((finished all).flag ∙ clear);
     }
 

@@ -6,8 +6,8 @@ use Rattle.std.proofs.Math.Bool.{or-false}
 use Rattle.std.proofs.lemmas.List.{drop_more, map-append}
 use Rattle.std.proofs.lemmas.List.Concat.{flat_map-append}
 use Rattle.std.proofs.lemmas.List.Folds.{list_any-append}
-use Rattle.byte_io.specs.Devices.{Told}
-use Rattle.byte_io.proofs.ToldLemmas.{Told-none, Told-then}
+use Rattle.byte_io.specs.Devices.{IfKnown}
+use Rattle.byte_io.proofs.KnownLemmas.{IfKnown-none, IfKnown-then}
 use Rattle.grep_run.specs.declared.options.GrepOptions.{GrepOptions}
 use Rattle.grep_run.specs.declared.request.Found.{Found}
 use Rattle.grep_run.specs.declared.request.Request.{Request}
@@ -16,9 +16,9 @@ use Rattle.grep_run.specs.Blocks.{block, has_selected, is_error, message}
 use Rattle.grep_run.specs.Grep.{answer_to, asks, searched}
 use Rattle.grep_run.specs.Searching.{AreSearched, IsCut, IsSearched, SearchesAsk, StopsAt}
 use Rattle.grep_run.specs.Sources.{Input, found, name_of}
-use Rattle.grep_run.specs.Writers.{Writer, Writes, WritesFront}
+use Rattle.grep_run.specs.Writers.{Writer, Writes, WritesPrefix}
 use Rattle.byte_io.proofs.OpenerLemmas.{after_all-one, short-after}
-use Rattle.grep_run.proofs.WriterLemmas.{Writes-nil, Writes-trans, WritesFront-none}
+use Rattle.grep_run.proofs.WriterLemmas.{Writes-nil, Writes-trans, WritesPrefix-none}
 
 -- what one input more gives
 flat_map-one : {X : Type 0} (f : X → List ℕ) (xs : List X) (x : X) → flat_map f (xs ++ x ∷ []) ≡ flat_map f xs ++ f x
@@ -30,7 +30,7 @@ list_any-one p xs x = list_any-append p xs (x ∷ []) ∙ ap (λ b. list_any p x
 -- the asks before the remaining asks are made, and the inputs that they found are searched
 pub record InputsSoFar (o : GrepOptions) (test : List ℕ → Bool) (all rest : List Ask) (s left : Sources) (what : Found) (out_old out_new err_old err_new : Writer) : Type 0 where
   pub done : List Input
-  pub front : searched o test (found all s) ≡ done ++ searched o test (found rest left)
+  pub prefix : searched o test (found all s) ≡ done ++ searched o test (found rest left)
   pub asked : left ≡ after_all (asks done) s
   pub short : AreShort left
   pub so_far : AreSearched (answer_to o test done) what out_old out_new err_old err_new
@@ -40,7 +40,7 @@ pub InputsSoFar-none : (o : GrepOptions) (test : List ℕ → Bool) (all : List 
     → InputsSoFar o test all all s s what out out err err
 InputsSoFar-none o test all s what out err selected error short = record {
   done = [];
-  front = refl;
+  prefix = refl;
   asked = refl;
   short = short;
   so_far = record { output = Writes-nil out; messages = Writes-nil err; selected = selected; error = error };
@@ -80,7 +80,7 @@ module _ {o : GrepOptions} {test : List ℕ → Bool} {all : List Ask} {s mid : 
         let there : following ≡ searched o test (found rest left) = ap (λ m. searched o test (found rest m)) (sym e) in
         record {
           done = p.done ++ next ∷ [];
-          front = p.front ∙ ap (λ is. p.done ++ is) here ∙ sym (append_assoc p.done (next ∷ []) following) ∙ ap (λ is. (p.done ++ next ∷ []) ++ is) there;
+          prefix = p.prefix ∙ ap (λ is. p.done ++ is) here ∙ sym (append_assoc p.done (next ∷ []) following) ∙ ap (λ is. (p.done ++ next ∷ []) ++ is) there;
           asked = asked-one;
           short = subst AreShort (sym e) (short-after ask mid p.short);
           so_far = so_far-one;
@@ -91,22 +91,22 @@ module _ {o : GrepOptions} {test : List ℕ → Bool} {all : List Ask} {s mid : 
         → (left ≡ after_all (asks (searched o test (found all s))) s) × AreSearched (answer_to o test (searched o test (found all s))) more out_old out_new err_old err_new
     InputsSoFar-last ends =
         let stops : (o.quiet && has_selected test next) ≡ true = ap (λ b. o.quiet && b) (sym q.selected) ∙ ends in
-        let here : searched o test (found all s) ≡ p.done ++ next ∷ [] = p.front ∙ ap (λ b. p.done ++ (next ∷ cond b [] following)) stops in (
+        let here : searched o test (found all s) ≡ p.done ++ next ∷ [] = p.prefix ∙ ap (λ b. p.done ++ (next ∷ cond b [] following)) stops in (
           asked-one ∙ ap (λ is. after_all (asks is) s) (sym here),
           subst (λ is. AreSearched (answer_to o test is) more out_old out_new err_old err_new) (sym here) so_far-one,
         )
 
-  -- where it is cut, fronts of both its texts are written
+  -- where it is cut, prefixes of both its texts are written
   pub InputsSoFar-cut : (out_new err_new : Writer) → IsCut o test (name_of ask) (taken_by ask mid) out_mid out_new err_mid err_new → StopsAt o test (searched o test (found all s)) s left out_old out_new err_old err_new
   InputsSoFar-cut out_new err_new q = record {
     done = p.done;
     last = next ∷ [];
     rest = cond (o.quiet && has_selected test next) [] following;
-    parts = p.front;
+    parts = p.prefix;
     one = omega arith;
     asked = asked-one;
-    output = record { between = out_mid; whole = p.so_far.output; front = subst (WritesFront out_mid out_new) (sym (append-nil (block o test next))) q.output };
-    messages = record { between = err_mid; whole = p.so_far.messages; front = subst (WritesFront err_mid err_new) (sym (append-nil (message o test next))) q.messages };
+    output = record { between = out_mid; whole = p.so_far.output; prefix = subst (WritesPrefix out_mid out_new) (sym (append-nil (block o test next))) q.output };
+    messages = record { between = err_mid; whole = p.so_far.messages; prefix = subst (WritesPrefix err_mid err_new) (sym (append-nil (message o test next))) q.messages };
     quiet = λ clear set.
         subst (Writes err_old err_new) (append-nil (flat_map (message o test) p.done))
         (Writes-trans err_old err_mid err_new (flat_map (message o test) p.done) [] p.so_far.messages (q.quiet (p.so_far.output.flag ∙ clear) set));
@@ -117,7 +117,7 @@ pub InputsSoFar-all : {o : GrepOptions} {test : List ℕ → Bool} {all : List A
     → InputsSoFar o test all [] s left what out_old out_new err_old err_new
     → (left ≡ after_all (asks (searched o test (found all s))) s) × AreSearched (answer_to o test (searched o test (found all s))) what out_old out_new err_old err_new
 InputsSoFar-all {o} {test} {all} {s} {left} {out_old} {out_new} {err_old} {err_new} what p =
-    let here : searched o test (found all s) ≡ p.done = p.front ∙ append-nil p.done in (
+    let here : searched o test (found all s) ≡ p.done = p.prefix ∙ append-nil p.done in (
       p.asked ∙ ap (λ is. after_all (asks is) s) (sym here),
       subst (λ is. AreSearched (answer_to o test is) what out_old out_new err_old err_new) (sym here) p.so_far,
     )
@@ -131,8 +131,8 @@ StopsAt-none o test inputs s out err = record {
   parts = refl;
   one = omega arith;
   asked = refl;
-  output = record { between = out; whole = Writes-nil out; front = WritesFront-none out [] };
-  messages = record { between = err; whole = Writes-nil err; front = WritesFront-none err [] };
+  output = record { between = out; whole = Writes-nil out; prefix = WritesPrefix-none out [] };
+  messages = record { between = err; whole = Writes-nil err; prefix = WritesPrefix-none err [] };
   quiet = λ clear set. Writes-nil err;
 }
 
@@ -146,47 +146,47 @@ operands-at operands items place operand text e inside there same =
 
 module _ (o : GrepOptions) (test : List ℕ → Bool) (known mid left : Option Sources) (all here rest : List Ask) (ask : Ask) (what : Found)
     (out_old out_mid out_new err_old err_mid err_new : Writer) (e : here ≡ ask ∷ rest)
-    (before : Told known mid (λ s m. AreShort s → InputsSoFar o test all here s m what out_old out_mid err_old err_mid)) where
+    (before : IfKnown known mid (λ s m. AreShort s → InputsSoFar o test all here s m what out_old out_mid err_old err_mid)) where
   -- the state before the next ask
   so_far : (s m : Sources) → InputsSoFar o test all here s m what out_old out_mid err_old err_mid → InputsSoFar o test all (ask ∷ rest) s m what out_old out_mid err_old err_mid
   so_far s m p = subst (λ asks. InputsSoFar o test all asks s m what out_old out_mid err_old err_mid) e p
 
   -- the loop goes on
-  pub inputs-more : (one more : Found) → Told mid left (λ m l. AreShort m → (l ≡ after ask m) × IsSearched o test (name_of ask) (taken_by ask m) one out_mid out_new err_mid err_new)
+  pub inputs-more : (one more : Found) → IfKnown mid left (λ m l. AreShort m → (l ≡ after ask m) × IsSearched o test (name_of ask) (taken_by ask m) one out_mid out_new err_mid err_new)
       → (o.quiet && one.is_selected) ≡ false → more.is_selected ≡ (what.is_selected || one.is_selected) → more.is_error ≡ (what.is_error || one.is_error)
-      → Told known left (λ s l. AreShort s → InputsSoFar o test all rest s l more out_old out_new err_old err_new)
+      → IfKnown known left (λ s l. AreShort s → InputsSoFar o test all rest s l more out_old out_new err_old err_new)
   inputs-more one more step goes selected error =
-      Told-then known mid left _ _ (λ s l. AreShort s → InputsSoFar o test all rest s l more out_old out_new err_old err_new) before step (λ s m l p q short.
+      IfKnown-then known mid left _ _ (λ s l. AreShort s → InputsSoFar o test all rest s l more out_old out_new err_old err_new) before step (λ s m l p q short.
       let now = so_far s m (p short) in
       let taken = q now.short in
       InputsSoFar-more ask rest l now taken.0 one more out_new err_new taken.1 selected error goes)
 
   -- it ends under -q
-  pub inputs-last : (one more : Found) → Told mid left (λ m l. AreShort m → (l ≡ after ask m) × IsSearched o test (name_of ask) (taken_by ask m) one out_mid out_new err_mid err_new)
+  pub inputs-last : (one more : Found) → IfKnown mid left (λ m l. AreShort m → (l ≡ after ask m) × IsSearched o test (name_of ask) (taken_by ask m) one out_mid out_new err_mid err_new)
       → (o.quiet && one.is_selected) ≡ true → more.is_selected ≡ (what.is_selected || one.is_selected) → more.is_error ≡ (what.is_error || one.is_error)
-      → Told known left (λ s l. AreShort s → (l ≡ after_all (asks (searched o test (found all s))) s) × AreSearched (answer_to o test (searched o test (found all s))) more out_old out_new err_old err_new)
+      → IfKnown known left (λ s l. AreShort s → (l ≡ after_all (asks (searched o test (found all s))) s) × AreSearched (answer_to o test (searched o test (found all s))) more out_old out_new err_old err_new)
   inputs-last one more step ends selected error =
-      Told-then known mid left _ _ (λ s l. AreShort s → (l ≡ after_all (asks (searched o test (found all s))) s) × AreSearched (answer_to o test (searched o test (found all s))) more out_old out_new err_old err_new) before step (λ s m l p q short.
+      IfKnown-then known mid left _ _ (λ s l. AreShort s → (l ≡ after_all (asks (searched o test (found all s))) s) × AreSearched (answer_to o test (searched o test (found all s))) more out_old out_new err_old err_new) before step (λ s m l p q short.
       let now = so_far s m (p short) in
       let taken = q now.short in
       InputsSoFar-last ask rest l now taken.0 one more out_new err_new taken.1 selected error ends)
 
   -- it stops
-  pub inputs-cut : Told mid left (λ m l. AreShort m → (l ≡ after ask m) × IsCut o test (name_of ask) (taken_by ask m) out_mid out_new err_mid err_new)
-      → Told known left (λ s l. AreShort s → StopsAt o test (searched o test (found all s)) s l out_old out_new err_old err_new)
+  pub inputs-cut : IfKnown mid left (λ m l. AreShort m → (l ≡ after ask m) × IsCut o test (name_of ask) (taken_by ask m) out_mid out_new err_mid err_new)
+      → IfKnown known left (λ s l. AreShort s → StopsAt o test (searched o test (found all s)) s l out_old out_new err_old err_new)
   inputs-cut step =
-      Told-then known mid left _ _ (λ s l. AreShort s → StopsAt o test (searched o test (found all s)) s l out_old out_new err_old err_new) before step (λ s m l p q short.
+      IfKnown-then known mid left _ _ (λ s l. AreShort s → StopsAt o test (searched o test (found all s)) s l out_old out_new err_old err_new) before step (λ s m l p q short.
       let now = so_far s m (p short) in
       let taken = q now.short in
       InputsSoFar-cut ask rest l now taken.0 out_new err_new taken.1)
 
 -- at first no input is searched
 pub inputs-none : (o : GrepOptions) (test : List ℕ → Bool) (known : Option Sources) (all : List Ask) (what : Found) (out err : Writer) → what.is_selected ≡ false → what.is_error ≡ false
-    → Told known known (λ s l. AreShort s → InputsSoFar o test all all s l what out out err err)
+    → IfKnown known known (λ s l. AreShort s → InputsSoFar o test all all s l what out out err err)
 inputs-none o test known all what out err selected error =
-    Told-none known (λ s l. AreShort s → InputsSoFar o test all all s l what out out err err) (λ s short. InputsSoFar-none o test all s what out err selected error short)
+    IfKnown-none known (λ s l. AreShort s → InputsSoFar o test all all s l what out out err err) (λ s short. InputsSoFar-none o test all s what out err selected error short)
 
 -- a searcher that keeps its request searches by it
 pub at-request : (known left : Option Sources) (r kept : Request) (ask : Ask) (result : Result Found Stop) (out_old out_new err_old err_new : Writer) → kept ≡ r
-    → Told known left (SearchesAsk kept ask result out_old out_new err_old err_new) → Told known left (SearchesAsk r ask result out_old out_new err_old err_new)
-at-request known left r kept ask result out_old out_new err_old err_new same p = subst (λ request. Told known left (SearchesAsk request ask result out_old out_new err_old err_new)) same p
+    → IfKnown known left (SearchesAsk kept ask result out_old out_new err_old err_new) → IfKnown known left (SearchesAsk r ask result out_old out_new err_old err_new)
+at-request known left r kept ask result out_old out_new err_old err_new same p = subst (λ request. IfKnown known left (SearchesAsk request ask result out_old out_new err_old err_new)) same p

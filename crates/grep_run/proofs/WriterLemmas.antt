@@ -1,10 +1,10 @@
--- Texts written in parts: one after another, and fronts of texts.
+-- Texts written in parts: one after another, and prefixes of texts.
 use Rattle.std.proofs.Common.{◌≡◌, ℕ, ◌||◌, Bool, true, false, List, [], ◌++◌, refl, sym, ap, ◌∙◌, append_assoc, append-nil, length-append, length-drop, take, drop, take-append-drop, arith}
 use Rattle.std.proofs.Math.Bool.{or-false}
 use Rattle.std.specs.Io.KnownBytes.{Appends}
 use Rattle.std.proofs.KnownBytes.{Appends-nil, Appends-trans}
-use Rattle.byte_io.specs.Transfers.{AppendsPrefix}
-use Rattle.grep_run.specs.Writers.{Writer, Writes, WritesFront}
+use Rattle.byte_io.specs.Transfers.{AppendsPart}
+use Rattle.grep_run.specs.Writers.{Writer, Writes, WritesPrefix}
 
 -- no text is written
 pub Writes-nil : (a : Writer) → Writes a a []
@@ -22,50 +22,50 @@ Writes-ok a b text grown flag = record { grown = grown; flag = flag ∙ or-false
 pub apart : {X : Type 0} (flag : Bool) → flag ≡ true → flag ≡ false → X
 apart flag set clear = let both : true ≡ false = sym set ∙ clear in (cc)
 
--- where nothing is written, a front is
-pub WritesFront-none : (a : Writer) (text : List ℕ) → WritesFront a a text
-WritesFront-none a text = record { front = []; rest = text; parts = refl; grown = Appends-nil a.written; strict = λ clear set. apart a.has_failed set clear }
+-- where nothing is written, a prefix is
+pub WritesPrefix-none : (a : Writer) (text : List ℕ) → WritesPrefix a a text
+WritesPrefix-none a text = record { prefix = []; rest = text; parts = refl; grown = Appends-nil a.written; strict = λ clear set. apart a.has_failed set clear }
 
--- where all is written, a front is
-pub WritesFront-all : (a b : Writer) (text : List ℕ) → Writes a b text → WritesFront a b text
-WritesFront-all a b text p = record {
-  front = text;
+-- where all is written, a prefix is
+pub WritesPrefix-all : (a b : Writer) (text : List ℕ) → Writes a b text → WritesPrefix a b text
+WritesPrefix-all a b text p = record {
+  prefix = text;
   rest = [];
   parts = sym (append-nil text);
   grown = p.grown;
   strict = λ clear set. apart b.has_failed set (p.flag ∙ clear);
 }
 
--- a part of the piece is a front of it
-pub WritesFront-part : (a b : Writer) (piece : List ℕ) → AppendsPrefix a.written b.written piece → WritesFront a b piece
-WritesFront-part a b piece p = record {
-  front = take p.count piece;
+-- a part of the piece is a prefix of it
+pub WritesPrefix-part : (a b : Writer) (piece : List ℕ) → AppendsPart a.written b.written piece → WritesPrefix a b piece
+WritesPrefix-part a b piece p = record {
+  prefix = take p.count piece;
   rest = drop p.count piece;
   parts = sym (take-append-drop p.count piece);
   grown = p.text;
   strict = λ clear set. omega (arith, p.fewer, length-drop p.count piece);
 }
 
--- a front after a text is one of both
-pub WritesFront-after : (a b c : Writer) (s t : List ℕ) → Writes a b s → WritesFront b c t → WritesFront a c (s ++ t)
-WritesFront-after a b c s t p q = record {
-  front = s ++ q.front;
+-- a prefix after a text is one of both
+pub WritesPrefix-after : (a b c : Writer) (s t : List ℕ) → Writes a b s → WritesPrefix b c t → WritesPrefix a c (s ++ t)
+WritesPrefix-after a b c s t p q = record {
+  prefix = s ++ q.prefix;
   rest = q.rest;
-  parts = ap (λ x. s ++ x) q.parts ∙ sym (append_assoc s q.front q.rest);
-  grown = Appends-trans a.written b.written c.written s q.front p.grown q.grown;
+  parts = ap (λ x. s ++ x) q.parts ∙ sym (append_assoc s q.prefix q.rest);
+  grown = Appends-trans a.written b.written c.written s q.prefix p.grown q.grown;
   strict = λ clear set. q.strict (p.flag ∙ clear) set;
 }
 
--- a front of a part is one of all
-pub WritesFront-more : (a b : Writer) (part more : List ℕ) → WritesFront a b part → WritesFront a b (part ++ more)
-WritesFront-more a b part more q = record {
-  front = q.front;
+-- a prefix of a part is one of all
+pub WritesPrefix-more : (a b : Writer) (part more : List ℕ) → WritesPrefix a b part → WritesPrefix a b (part ++ more)
+WritesPrefix-more a b part more q = record {
+  prefix = q.prefix;
   rest = q.rest ++ more;
-  parts = ap (λ t. t ++ more) q.parts ∙ append_assoc q.front q.rest more;
+  parts = ap (λ t. t ++ more) q.parts ∙ append_assoc q.prefix q.rest more;
   grown = q.grown;
   strict = λ clear set. omega (arith, q.strict clear set, length-append q.rest more);
 }
 
--- where no text is written, a front of any is
-pub WritesFront-nothing : (a b : Writer) (text : List ℕ) → Writes a b [] → WritesFront a b text
-WritesFront-nothing a b text p = WritesFront-more a b [] text (WritesFront-all a b [] p)
+-- where no text is written, a prefix of any is
+pub WritesPrefix-nothing : (a b : Writer) (text : List ℕ) → Writes a b [] → WritesPrefix a b text
+WritesPrefix-nothing a b text p = WritesPrefix-more a b [] text (WritesPrefix-all a b [] p)

@@ -1,6 +1,6 @@
 -- What gathering patterns answers, against the patterns and the messages of pattern files.
 use Rattle.std.specs.Prelude.{◌≡◌, ◌≢◌, ℕ, List, [], ◌++◌, flat_map, Option, Some, None, Result, Ok, Err}
-use Rattle.byte_io.specs.Sources.{AsksFront, Content, Sources, after_all}
+use Rattle.byte_io.specs.Sources.{AsksPrefix, Content, Sources, after_all}
 use Rattle.lit_base.specs.declared.fault.Fault.TheVariants.{OutOfMemory}
 use Rattle.line_pick.specs.Matching.{StandsFor}
 use Rattle.grep_run.specs.declared.compiled_patterns.CompiledPatterns.{CompiledPatterns}
@@ -12,7 +12,7 @@ use Rattle.grep_run.specs.Grep.{asks, after_files}
 use Rattle.grep_run.specs.Messages.{patterns_refused, unreadable}
 use Rattle.grep_run.specs.Patterns.{content_message, files_asked, files_message, files_read, patterns_from, patterns_message, all_patterns}
 use Rattle.grep_run.specs.Sources.{Input}
-use Rattle.grep_run.specs.Writers.{Writer, Writes, WritesFront}
+use Rattle.grep_run.specs.Writers.{Writer, Writes, WritesPrefix}
 
 -- the message is on this, or memory ran out before
 abbrev pub Explains : NoPatterns → Option (List ℕ) → Type 0
@@ -32,7 +32,7 @@ pub record TakesAllFiles (old new : List (List ℕ)) (s left : Sources) (files :
 
 pub record StopsAtFile (old : List (List ℕ)) (s left : Sources) (files : List Input) (why : NoPatterns) : Type 0 where
   pub message : Explains why (files_message old files)
-  pub front : AsksFront (asks (files_read old files)) s left
+  pub prefix : AsksPrefix (asks (files_read old files)) s left
   pub after : why ≢ Refused OutOfMemory → left ≡ after_all (asks (files_read old files)) s
 
 abbrev pub TakesFiles : {T : Type 0} → List (List ℕ) → List (List ℕ) → Sources → Sources → List Input → Result T NoPatterns → Type 0
@@ -47,7 +47,7 @@ pub record HasPatterns (o : GrepOptions) (s left : Sources) (compiled : Compiled
 
 pub record LacksPatterns (o : GrepOptions) (s left : Sources) (why : NoPatterns) : Type 0 where
   pub message : Explains why (patterns_message o s)
-  pub front : AsksFront (asks (files_asked o s)) s left
+  pub prefix : AsksPrefix (asks (files_asked o s)) s left
   pub after : why ≢ Refused OutOfMemory → left ≡ after_files o s
 
 abbrev pub TakesPatterns : GrepOptions → Sources → Sources → Result CompiledPatterns NoPatterns → Type 0
@@ -62,11 +62,11 @@ text_of (Refused fault) = patterns_refused fault
 
 pub record IsRefusal (why : NoPatterns) (err_old err_new : Writer) : Type 0 where
   pub memory : why ≢ Refused OutOfMemory
-  pub told : Writes err_old err_new (text_of why)
+  pub reported : Writes err_old err_new (text_of why)
 
 pub record IsRefusalCut (why : NoPatterns) (err_old err_new : Writer) : Type 0 where
-  pub front : WritesFront err_old err_new (text_of why)
-  pub untold : why ≡ Refused OutOfMemory → Writes err_old err_new []
+  pub prefix : WritesPrefix err_old err_new (text_of why)
+  pub unreported : why ≡ Refused OutOfMemory → Writes err_old err_new []
 
 abbrev pub Refuses : {T : Type 0} → NoPatterns → Result T Stop → Writer → Writer → Type 0
 Refuses why (Ok _) = IsRefusal why

@@ -1,6 +1,6 @@
 -- How a run ends, against what grep writes and answers.
 use Rattle.std.specs.Prelude.{◌≡◌, ◌||◌, ◌⊎◌, true, [], None, Result, Ok, Err, unwrap_or}
-use Rattle.byte_io.specs.Sources.{AsksFront, Sources}
+use Rattle.byte_io.specs.Sources.{AsksPrefix, Sources}
 use Rattle.grep_run.specs.declared.options.GrepOptions.{GrepOptions}
 use Rattle.grep_run.specs.declared.status.Status.{Status}
 use Rattle.grep_run.specs.declared.status.Status.TheVariants.{Trouble}
@@ -10,7 +10,7 @@ use Rattle.grep_run.specs.Grep.{Answer, asks, after_files, grep, inputs_of, left
 use Rattle.grep_run.specs.Messages.{out_of_memory}
 use Rattle.grep_run.specs.Patterns.{files_asked, patterns_message, all_patterns}
 use Rattle.grep_run.specs.Searching.{StopsAt}
-use Rattle.grep_run.specs.Writers.{Writer, Writes, WritesFront}
+use Rattle.grep_run.specs.Writers.{Writer, Writes, WritesPrefix}
 
 -- all was written, and this is the status
 pub record IsAnswered (o : GrepOptions) (a : Answer) (status : Status) (out_old out_new err_old err_new : Writer) : Type 0 where
@@ -18,11 +18,11 @@ pub record IsAnswered (o : GrepOptions) (a : Answer) (status : Status) (out_old 
   pub messages : Writes err_old err_new a.messages
   pub answer : status ≡ status_of o a
 
--- a run that stopped over its patterns wrote a front of the message on them, and asked for no file to search
+-- a run that stopped over its patterns wrote a prefix of the message on them, and asked for no file to search
 pub record StopsEarly (o : GrepOptions) (s left : Sources) (out_old out_new err_old err_new : Writer) : Type 0 where
-  pub asked : AsksFront (asks (files_asked o s)) s left
+  pub asked : AsksPrefix (asks (files_asked o s)) s left
   pub output : Writes out_old out_new []
-  pub messages : WritesFront err_old err_new (unwrap_or (patterns_message o s) [])
+  pub messages : WritesPrefix err_old err_new (unwrap_or (patterns_message o s) [])
 
 -- a run that stopped did so over its patterns, or over its inputs
 pub data Stops (o : GrepOptions) (s left : Sources) (out_old out_new err_old err_new : Writer) : Type 0 where
@@ -35,12 +35,12 @@ abbrev pub RunsTo : GrepOptions → Sources → Sources → Result Status Stop �
 RunsTo o s left (Ok status) out_old out_new err_old err_new = (left ≡ left_of o s) × IsAnswered o (grep o s) status out_old out_new err_old err_new
 RunsTo o s left (Err stop) out_old out_new err_old err_new = Stops o s left out_old out_new err_old err_new
 
--- memory ran out where no call had failed; then the message on it is written, or a front of it where its writing fails
+-- memory ran out where no call had failed; then the message on it is written, or a prefix of it where its writing fails
 pub record IsStarved (o : GrepOptions) (s left : Sources) (out_old out_new err_old err_new : Writer) : Type 0 where
   pub between : Writer
   pub stopped : Stops o s left out_old out_new err_old between
   pub sound : (out_new.has_failed || between.has_failed) ≡ (out_old.has_failed || err_old.has_failed)
-  pub told : Writes between err_new out_of_memory ⊎ ((err_new.has_failed ≡ true) × WritesFront between err_new out_of_memory)
+  pub reported : Writes between err_new out_of_memory ⊎ ((err_new.has_failed ≡ true) × WritesPrefix between err_new out_of_memory)
 
 -- how a run ends: whole, at a write that failed, or for want of memory
 pub data Ends (o : GrepOptions) (s left : Sources) (status : Status) (out_old out_new err_old err_new : Writer) : Type 0 where

@@ -15,7 +15,7 @@ use Rattle.grep_run.specs.declared.request.End.TheVariants.{Clean, Fault}
 use Rattle.grep_run.specs.declared.status.Stop.{Stop as Halt}
 use Rattle.grep_run.specs.Blocks.{block_in, block_of, has_any, is_trouble, lines_of}
 use Rattle.grep_run.specs.Growing.{added_line, are_shown, ending_of, next_of}
-use Rattle.grep_run.specs.Writers.{Writer, Writes, WritesFront}
+use Rattle.grep_run.specs.Writers.{Writer, Writes, WritesPrefix}
 
 -- the test of a picker
 abbrev pub picked_by : Picking → List ℕ → Bool
@@ -64,7 +64,7 @@ abbrev pub FeedsPiece : GrepOptions → (List ℕ → Bool) → List ℕ → Lis
 FeedsPiece o test name text piece (Ok None) p b before out = StandsAfter o test name (text ++ piece) p b before out
 FeedsPiece o test name text piece (Ok (Some Clean)) p b before out = IsHalted o name (ended_in test (text ++ piece)) b before out
 FeedsPiece o test name text piece (Ok (Some Fault)) p b before out = 2 ^ 64 ≤ length text + length piece
-FeedsPiece o test name text piece (Err stop) p b before out = WritesFront before out (flat_map (added_line o name) (ended_in test (text ++ piece)))
+FeedsPiece o test name text piece (Err stop) p b before out = WritesPrefix before out (flat_map (added_line o name) (ended_in test (text ++ piece)))
 
 -- whether reading ended in a fault
 abbrev pub is_fault : End → Bool
@@ -83,4 +83,4 @@ pub record HasRead (o : GrepOptions) (test : List ℕ → Bool) (name : List ℕ
 
 abbrev pub ReadsLines : GrepOptions → (List ℕ → Bool) → List ℕ → Content → Result End Halt → Block → Writer → Writer → Type 0
 ReadsLines o test name c (Ok end) b before out = HasRead o test name c end b before out
-ReadsLines o test name c (Err stop) b before out = WritesFront before out (block_in o test name (Some c))
+ReadsLines o test name c (Err stop) b before out = WritesPrefix before out (block_in o test name (Some c))

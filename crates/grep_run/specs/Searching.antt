@@ -9,7 +9,7 @@ use Rattle.grep_run.specs.Blocks.{block_in, has_any, is_trouble, message_in, sel
 use Rattle.grep_run.specs.Grep.{Answer, answer_to, asks, searched}
 use Rattle.grep_run.specs.Requests.{test_of}
 use Rattle.grep_run.specs.Sources.{Input, found, name_of}
-use Rattle.grep_run.specs.Writers.{Writer, Writes, WritesFront, WritesUpTo}
+use Rattle.grep_run.specs.Writers.{Writer, Writes, WritesPrefix, WritesUpTo}
 
 -- one input: its block and its message are written, and this was found
 pub record IsSearched (o : GrepOptions) (test : List ℕ → Bool) (name : List ℕ) (source : Option Content) (found : Found) (out_old out_new err_old err_new : Writer) : Type 0 where
@@ -18,10 +18,10 @@ pub record IsSearched (o : GrepOptions) (test : List ℕ → Bool) (name : List 
   pub selected : found.is_selected ≡ has_any (selected_in test source)
   pub error : found.is_error ≡ is_trouble o test source
 
--- fronts of both are written, and no message where the output failed
+-- prefixes of both are written, and no message where the output failed
 pub record IsCut (o : GrepOptions) (test : List ℕ → Bool) (name : List ℕ) (source : Option Content) (out_old out_new err_old err_new : Writer) : Type 0 where
-  pub output : WritesFront out_old out_new (block_in o test name source)
-  pub messages : WritesFront err_old err_new (message_in o test name source)
+  pub output : WritesPrefix out_old out_new (block_in o test name source)
+  pub messages : WritesPrefix err_old err_new (message_in o test name source)
   pub quiet : out_old.has_failed ≡ false → out_new.has_failed ≡ true → Writes err_old err_new []
 
 abbrev pub Searches : GrepOptions → (List ℕ → Bool) → List ℕ → Option Content → Result Found Stop → Writer → Writer → Writer → Writer → Type 0
@@ -40,7 +40,7 @@ pub record AreSearched (a : Answer) (found : Found) (out_old out_new err_old err
   pub selected : found.is_selected ≡ a.has_selected
   pub error : found.is_error ≡ a.has_error
 
--- it stopped: all of the inputs before the last one that was asked for is written, of that one fronts, and nothing more is asked for; where none was asked for, nothing is written.
+-- it stopped: all of the inputs before the last one that was asked for is written, of that one prefixes, and nothing more is asked for; where none was asked for, nothing is written.
 -- Where the output failed, there is no message on the last one
 pub record StopsAt (o : GrepOptions) (test : List ℕ → Bool) (inputs : List Input) (s left : Sources) (out_old out_new err_old err_new : Writer) : Type 0 where
   pub done : List Input

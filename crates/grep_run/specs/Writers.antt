@@ -18,19 +18,19 @@ pub record Writes (old new : Writer) (text : List ℕ) : Type 0 where
   pub grown : Appends old.written new.written text
   pub flag : new.has_failed ≡ old.has_failed
 
--- a front of the text is written, and not all of it where a call failed
-pub record WritesFront (old new : Writer) (text : List ℕ) : Type 0 where
-  pub front : List ℕ
+-- a prefix of the text is written, and not all of it where a call failed
+pub record WritesPrefix (old new : Writer) (text : List ℕ) : Type 0 where
+  pub prefix : List ℕ
   pub rest : List ℕ
-  pub parts : text ≡ front ++ rest
-  pub grown : Appends old.written new.written front
+  pub parts : text ≡ prefix ++ rest
+  pub grown : Appends old.written new.written prefix
   pub strict : old.has_failed ≡ false → new.has_failed ≡ true → 0 < length rest
 
--- the first text is written, and after it a front of the second
+-- the first text is written, and after it a prefix of the second
 pub record WritesUpTo (old new : Writer) (text part : List ℕ) : Type 0 where
   pub between : Writer
   pub whole : Writes old between text
-  pub front : WritesFront between new part
+  pub prefix : WritesPrefix between new part
 
 -- a run stopped at a write that failed
 abbrev pub is_write_fault : {T : Type 0} → Result T Stop → Bool

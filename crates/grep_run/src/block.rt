@@ -1,7 +1,7 @@
 //! The block of one input: the text for its selected lines.
 ghost use Rattle.std.specs.Prelude.{◌≡◌, ◌++◌, ◌∷◌, ◌||◌, [], OnErr, OnOk, codes, decimal};
 ghost use Rattle.grep_run.specs.Blocks.{prefix_of, written_line};
-ghost use Rattle.grep_run.specs.Writers.{Writes, WritesFront, is_write_fault, writer};
+ghost use Rattle.grep_run.specs.Writers.{Writes, WritesPrefix, is_write_fault, writer};
 
 use crate::message::write_whole;
 use crate::options::GrepOptions;
@@ -46,11 +46,11 @@ impl<'a> Block<'a> {
         self.text.clear();
     }
 
-    /// Writes the text that it holds, and then holds nothing. After an error some of it may be written, from its front.
+    /// Writes the text that it holds, and then holds nothing. After an error some of it may be written, from its start.
     pub fn write<W: ByteOut>(&mut self, out: &mut W) -> Result<(), Stop>
         ensures ok { OnOk result (Writes (writer W.written W.has_failed out.old) (writer W.written W.has_failed out.new) self.old.text.items) }
         ensures empty { OnOk result (self.new.text.items ≡ []) }
-        ensures stopped { OnErr result (WritesFront (writer W.written W.has_failed out.old) (writer W.written W.has_failed out.new) self.old.text.items) }
+        ensures stopped { OnErr result (WritesPrefix (writer W.written W.has_failed out.old) (writer W.written W.has_failed out.new) self.old.text.items) }
         ensures fault { OnErr result (result ≡ Err Stop.WriteFault) }
         ensures same { IsSameBlock self.old self.new }
         ensures flag { W.has_failed out.new ≡ (W.has_failed out.old || is_write_fault result) }
@@ -61,11 +61,11 @@ impl<'a> Block<'a> {
     }
 
     /// Writes the text that it holds, and the text after the last line. After an error some of both may be written,
-    /// from the front.
+    /// from the start.
     pub fn finish<W: ByteOut>(&mut self, out: &mut W) -> Result<(), Stop>
         ensures ok { OnOk result (Writes (writer W.written W.has_failed out.old) (writer W.written W.has_failed out.new)
             (self.old.text.items ++ ending_of self.old.options.now self.old.name.now self.old.count)) }
-        ensures stopped { OnErr result (WritesFront (writer W.written W.has_failed out.old) (writer W.written W.has_failed out.new)
+        ensures stopped { OnErr result (WritesPrefix (writer W.written W.has_failed out.old) (writer W.written W.has_failed out.new)
             (self.old.text.items ++ ending_of self.old.options.now self.old.name.now self.old.count)) }
         ensures count { OnOk result (self.new.count ≡ self.old.count) }
         ensures flag { W.has_failed out.new ≡ (W.has_failed out.old || is_write_fault result) }

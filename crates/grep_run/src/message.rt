@@ -1,17 +1,17 @@
 //! Messages on standard error, each a line after the program's name.
 ghost use Rattle.std.specs.Prelude.{◌≡◌, ◌||◌, IfOk, OnErr, OnOk, string_bytes};
 ghost use Rattle.grep_run.specs.Messages.{out_of_memory, patterns_refused, unreadable};
-ghost use Rattle.grep_run.specs.Writers.{Writes, WritesFront, is_write_fault, writer};
+ghost use Rattle.grep_run.specs.Writers.{Writes, WritesPrefix, is_write_fault, writer};
 
 use crate::status::Stop;
 use lit_base::{ByteOut, Fault, write_all};
 use std::alloc::{AllocError, Global};
 
 /// Says that a file cannot be opened or read. After an error some of the message may be written,
-/// from its front.
+/// from its start.
 pub fn say_unreadable<E: ByteOut>(alloc: Global, name: &str, err: &mut E) -> Result<(), Stop>
     ensures ok { OnOk result (Writes (writer E.written E.has_failed err.old) (writer E.written E.has_failed err.new) (unreadable name.now)) }
-    ensures err { OnErr result (WritesFront (writer E.written E.has_failed err.old) (writer E.written E.has_failed err.new) (unreadable name.now)) }
+    ensures err { OnErr result (WritesPrefix (writer E.written E.has_failed err.old) (writer E.written E.has_failed err.new) (unreadable name.now)) }
     ensures flag { E.has_failed err.new ≡ (E.has_failed err.old || is_write_fault result) }
 {
     let text = unreadable_text(alloc, name)?;
@@ -19,10 +19,10 @@ pub fn say_unreadable<E: ByteOut>(alloc: Global, name: &str, err: &mut E) -> Res
 }
 
 /// Says that the patterns are refused, and by which refusal. After an error some of the message may
-/// be written, from its front.
+/// be written, from its start.
 pub fn say_refused<E: ByteOut>(alloc: Global, fault: Fault, err: &mut E) -> Result<(), Stop>
     ensures ok { OnOk result (Writes (writer E.written E.has_failed err.old) (writer E.written E.has_failed err.new) (patterns_refused fault)) }
-    ensures err { OnErr result (WritesFront (writer E.written E.has_failed err.old) (writer E.written E.has_failed err.new) (patterns_refused fault)) }
+    ensures err { OnErr result (WritesPrefix (writer E.written E.has_failed err.old) (writer E.written E.has_failed err.new) (patterns_refused fault)) }
     ensures flag { E.has_failed err.new ≡ (E.has_failed err.old || is_write_fault result) }
 {
     let text = refused_text(alloc, fault)?;
@@ -43,20 +43,20 @@ fn refused_text(alloc: Global, fault: Fault) -> Result<String, AllocError>
 }
 
 /// Says that memory ran out. It takes none itself. After an error some of the message may be
-/// written, from its front.
+/// written, from its start.
 pub fn say_out_of_memory<E: ByteOut>(err: &mut E) -> Result<(), Stop>
     ensures ok { OnOk result (Writes (writer E.written E.has_failed err.old) (writer E.written E.has_failed err.new) out_of_memory) }
-    ensures err { OnErr result (WritesFront (writer E.written E.has_failed err.old) (writer E.written E.has_failed err.new) out_of_memory) }
+    ensures err { OnErr result (WritesPrefix (writer E.written E.has_failed err.old) (writer E.written E.has_failed err.new) out_of_memory) }
     ensures fault { OnErr result (result ≡ Err Stop.WriteFault) }
     ensures flag { E.has_failed err.new ≡ (E.has_failed err.old || is_write_fault result) }
 {
     write_whole(b"litgrep: out of memory\n", err)
 }
 
-/// Writes the whole text. After an error some of it may be written, from its front.
+/// Writes the whole text. After an error some of it may be written, from its start.
 pub fn write_whole<W: ByteOut>(text: &[u8], out: &mut W) -> Result<(), Stop>
     ensures ok { OnOk result (Writes (writer W.written W.has_failed out.old) (writer W.written W.has_failed out.new) text.now) }
-    ensures err { OnErr result (WritesFront (writer W.written W.has_failed out.old) (writer W.written W.has_failed out.new) text.now) }
+    ensures err { OnErr result (WritesPrefix (writer W.written W.has_failed out.old) (writer W.written W.has_failed out.new) text.now) }
     ensures fault { OnErr result (result ≡ Err Stop.WriteFault) }
     ensures flag { W.has_failed out.new ≡ (W.has_failed out.old || is_write_fault result) }
 {

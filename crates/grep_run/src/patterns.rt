@@ -1,7 +1,7 @@
 //! The patterns of a run.
 ghost use Rattle.std.specs.Prelude.{◌≡◌, [], All, IfOk, OnOk, Some, map, string_bytes};
 ghost use Rattle.byte_io.specs.Sources.{AreShort, Content, IsShort, Named, after, coming_of, source_of};
-ghost use Rattle.byte_io.specs.Devices.{Told};
+ghost use Rattle.byte_io.specs.Devices.{IfKnown};
 ghost use Rattle.lit_base.specs.Lines.{IsOnePiece};
 ghost use Rattle.grep_run.specs.Gathering.{TakesFile, TakesFiles, TakesPatterns};
 ghost use Rattle.grep_run.specs.Options.{asks_for};
@@ -40,7 +40,7 @@ pub fn gathered<'a, O: Opener>(
     options: &'a GrepOptions,
     opener: &mut O,
 ) -> Result<CompiledPatterns, NoPatterns<'a>>
-    ensures { Told (O.sources opener.old) (O.sources opener.new) (λ s left. AreShort s
+    ensures { IfKnown (O.sources opener.old) (O.sources opener.new) (λ s left. AreShort s
         → TakesPatterns options.now s left result) }
 {
     let mut patterns = listed(alloc, options.lists.as_slice())?;
@@ -70,7 +70,7 @@ fn add_files<'a, O: Opener>(
     patterns: &mut RawList,
 ) -> Result<(), NoPatterns<'a>>
     ensures apart { All IsOnePiece patterns.old → OnOk result (All IsOnePiece patterns.new) }
-    ensures answer { Told (O.sources opener.old) (O.sources opener.new) (λ s left. AreShort s
+    ensures answer { IfKnown (O.sources opener.old) (O.sources opener.new) (λ s left. AreShort s
         → TakesFiles patterns.old patterns.new s left (found (asks_for (map string_bytes files.now)) s) result) }
 {
     for file in files {
@@ -87,7 +87,7 @@ fn add_file<'a, O: Opener>(
     patterns: &mut RawList,
 ) -> Result<(), NoPatterns<'a>>
     ensures apart { All IsOnePiece patterns.old → OnOk result (All IsOnePiece patterns.new) }
-    ensures answer { Told (O.sources opener.old) (O.sources opener.new) (λ s left. AreShort s
+    ensures answer { IfKnown (O.sources opener.old) (O.sources opener.new) (λ s left. AreShort s
         → (left ≡ after (Named name.now) s) × TakesFile name.now patterns.old patterns.new (source_of name.now s.named) result) }
 {
     match opener.open_named(name) {

@@ -1,12 +1,12 @@
 //! A run of grep.
 ghost use Rattle.std.specs.Prelude.{◌≡◌, ◌≢◌, ◌||◌, ◌&&◌, [], IfOk, OnErr, OnOk, if◌then◌else◌};
 ghost use Rattle.byte_io.specs.Sources.{AreShort};
-ghost use Rattle.byte_io.specs.Devices.{Told};
+ghost use Rattle.byte_io.specs.Devices.{IfKnown};
 ghost use Rattle.grep_run.specs.Gathering.{Refuses};
 ghost use Rattle.grep_run.specs.Grep.{status_where};
 ghost use Rattle.grep_run.specs.Messages.{patterns_refused};
 ghost use Rattle.grep_run.specs.Running.{RunsTo, Ends};
-ghost use Rattle.grep_run.specs.Writers.{Writes, WritesFront, is_write_fault, writer};
+ghost use Rattle.grep_run.specs.Writers.{Writes, WritesPrefix, is_write_fault, writer};
 
 use crate::message::{say_out_of_memory, say_refused, say_unreadable};
 use crate::options::GrepOptions;
@@ -29,7 +29,7 @@ pub fn run<O: Opener, W: ByteOut, E: ByteOut>(
     out: &mut W,
     err: &mut E,
 ) -> Status
-    ensures ends { Told (O.sources opener.old) (O.sources opener.new) (λ s left. AreShort s
+    ensures ends { IfKnown (O.sources opener.old) (O.sources opener.new) (λ s left. AreShort s
         → Ends options.now s left result
         (writer W.written W.has_failed out.old) (writer W.written W.has_failed out.new)
         (writer E.written E.has_failed err.old) (writer E.written E.has_failed err.new)) }
@@ -56,7 +56,7 @@ pub fn answer<O: Opener, W: ByteOut, E: ByteOut>(
     out: &mut W,
     err: &mut E,
 ) -> Result<Status, Stop>
-    ensures answer { Told (O.sources opener.old) (O.sources opener.new) (λ s left. AreShort s
+    ensures answer { IfKnown (O.sources opener.old) (O.sources opener.new) (λ s left. AreShort s
         → RunsTo options.now s left result
         (writer W.written W.has_failed out.old) (writer W.written W.has_failed out.new)
         (writer E.written E.has_failed err.old) (writer E.written E.has_failed err.new)) }
@@ -82,7 +82,7 @@ pub fn answer<O: Opener, W: ByteOut, E: ByteOut>(
 /// Says why there are no patterns.
 fn refuse<E: ByteOut>(alloc: Global, why: NoPatterns<'_>, err: &mut E) -> Result<Status, Stop>
     ensures status { IfOk result (λ status. status ≡ Status.Trouble) }
-    ensures told { Refuses why.entry result (writer E.written E.has_failed err.old) (writer E.written E.has_failed err.new) }
+    ensures reported { Refuses why.entry result (writer E.written E.has_failed err.old) (writer E.written E.has_failed err.new) }
     ensures flag { E.has_failed err.new ≡ (E.has_failed err.old || is_write_fault result) }
 {
     say(alloc, why, err)?;
@@ -91,7 +91,7 @@ fn refuse<E: ByteOut>(alloc: Global, why: NoPatterns<'_>, err: &mut E) -> Result
 
 /// The message on that, unless it is want of memory.
 fn say<E: ByteOut>(alloc: Global, why: NoPatterns<'_>, err: &mut E) -> Result<(), Stop>
-    ensures told { Refuses why.entry result (writer E.written E.has_failed err.old) (writer E.written E.has_failed err.new) }
+    ensures reported { Refuses why.entry result (writer E.written E.has_failed err.old) (writer E.written E.has_failed err.new) }
     ensures flag { E.has_failed err.new ≡ (E.has_failed err.old || is_write_fault result) }
 {
     match why {
@@ -104,8 +104,8 @@ fn say<E: ByteOut>(alloc: Global, why: NoPatterns<'_>, err: &mut E) -> Result<()
 fn say_fault<E: ByteOut>(alloc: Global, fault: Fault, err: &mut E) -> Result<(), Stop>
     ensures other { OnOk result (fault ≢ Fault.OutOfMemory) }
     ensures ok { OnOk result (Writes (writer E.written E.has_failed err.old) (writer E.written E.has_failed err.new) (patterns_refused fault)) }
-    ensures stopped { OnErr result (WritesFront (writer E.written E.has_failed err.old) (writer E.written E.has_failed err.new) (patterns_refused fault)) }
-    ensures untold { fault ≡ Fault.OutOfMemory → Writes (writer E.written E.has_failed err.old) (writer E.written E.has_failed err.new) [] }
+    ensures stopped { OnErr result (WritesPrefix (writer E.written E.has_failed err.old) (writer E.written E.has_failed err.new) (patterns_refused fault)) }
+    ensures unreported { fault ≡ Fault.OutOfMemory → Writes (writer E.written E.has_failed err.old) (writer E.written E.has_failed err.new) [] }
     ensures flag { E.has_failed err.new ≡ (E.has_failed err.old || is_write_fault result) }
 {
     match fault {

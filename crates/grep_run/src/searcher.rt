@@ -2,13 +2,13 @@
 ghost use Rattle.std.specs.Prelude.{◌≡◌, ℕ, ◌<◌, ◌≤◌, ◌||◌, ◌&&◌, Bool, List, [], IfOk, IfSome, None, OnErr, OnOk, Some, if◌then◌else◌, map, not, string_bytes, vec_len};
 ghost use Rattle.std.proofs.Props.{props};
 ghost use Rattle.byte_io.specs.Sources.{Content, IsShort, ask_of, coming_of};
-ghost use Rattle.byte_io.specs.Devices.{Told};
+ghost use Rattle.byte_io.specs.Devices.{IfKnown};
 ghost use Rattle.grep_run.specs.Messages.{unreadable};
 ghost use Rattle.grep_run.specs.Options.{searched_of};
 ghost use Rattle.grep_run.specs.Requests.{test_of};
 ghost use Rattle.grep_run.specs.Searching.{Searches, SearchesAsk, SearchesAsks};
 ghost use Rattle.grep_run.specs.declared.searcher.TheConstants.{LEAST_READ_SIZE, READ_SIZE, UNUSED};
-ghost use Rattle.grep_run.specs.Writers.{Writer, Writes, WritesFront, is_write_fault, writer};
+ghost use Rattle.grep_run.specs.Writers.{Writer, Writes, WritesPrefix, is_write_fault, writer};
 ghost use Rattle.line_pick.specs.Matching.{list_of};
 
 use crate::block::Block;
@@ -50,7 +50,7 @@ pub fn search_all<O: Opener, W: ByteOut, E: ByteOut>(
     out: &mut W,
     err: &mut E,
 ) -> Result<Found, Stop>
-    ensures answer { Told (O.sources opener.old) (O.sources opener.new)
+    ensures answer { IfKnown (O.sources opener.old) (O.sources opener.new)
         (SearchesAsks request.entry (searched_of request.entry.options.now) result
         (writer W.written W.has_failed out.old) (writer W.written W.has_failed out.new)
         (writer E.written E.has_failed err.old) (writer E.written E.has_failed err.new)) }
@@ -122,7 +122,7 @@ impl<'a> Searcher<'a> {
         out: &mut W,
         err: &mut E,
     ) -> Result<Found, Stop>
-        ensures answer { Told (O.sources opener.old) (O.sources opener.new)
+        ensures answer { IfKnown (O.sources opener.old) (O.sources opener.new)
             (SearchesAsks self.old.request (map ask_of (map string_bytes self.old.request.options.now.operands.items)) result
             (writer W.written W.has_failed out.old) (writer W.written W.has_failed out.new)
             (writer E.written E.has_failed err.old) (writer E.written E.has_failed err.new)) }
@@ -149,7 +149,7 @@ impl<'a> Searcher<'a> {
         out: &mut W,
         err: &mut E,
     ) -> Result<Found, Stop>
-        ensures answer { Told (O.sources opener.old) (O.sources opener.new)
+        ensures answer { IfKnown (O.sources opener.old) (O.sources opener.new)
             (SearchesAsk self.old.request (ask_of operand.now) result
             (writer W.written W.has_failed out.old) (writer W.written W.has_failed out.new)
             (writer E.written E.has_failed err.old) (writer E.written E.has_failed err.new)) }
@@ -222,7 +222,7 @@ impl<'a> Searcher<'a> {
     fn report<E: ByteOut>(&self, name: &str, is_error: bool, err: &mut E) -> Result<(), Stop>
         ensures ok { OnOk result (Writes (writer E.written E.has_failed err.old) (writer E.written E.has_failed err.new)
             (if is_error && not self.now.request.options.now.silent then unreadable name.now else [])) }
-        ensures cut { OnErr result (WritesFront (writer E.written E.has_failed err.old) (writer E.written E.has_failed err.new)
+        ensures cut { OnErr result (WritesPrefix (writer E.written E.has_failed err.old) (writer E.written E.has_failed err.new)
             (if is_error && not self.now.request.options.now.silent then unreadable name.now else [])) }
         ensures flag { E.has_failed err.new ≡ (E.has_failed err.old || is_write_fault result) }
     {

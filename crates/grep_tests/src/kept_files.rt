@@ -1,7 +1,7 @@
-//! An opener that tells its sources and keeps what it is asked for.
+//! An opener whose sources are known, and which keeps its requests.
 ghost use Rattle.std.specs.Prelude.{◌≡◌, [], ◌∷◌, ◌++◌, string_bytes};
 
-use crate::lent_texts::LentTexts;
+use crate::borrowed_texts::BorrowedTexts;
 use byte_io::{CutIn, Missing, Opener};
 use std::process::Abort;
 
@@ -16,13 +16,13 @@ pub enum Asked {
 #[derive(Drop)]
 pub struct KeptFiles<'a, R> {
     rt: &'a R,
-    texts: LentTexts<'a>,
+    texts: BorrowedTexts<'a>,
     asks: Vec<Asked>,
 }
 
 impl<'a, R: Abort + AllocGlobal> KeptFiles<'a, R> {
     /// Files of these texts, before any ask.
-    pub fn new(rt: &'a R, texts: LentTexts<'a>) -> KeptFiles<'a, R> {
+    pub fn new(rt: &'a R, texts: BorrowedTexts<'a>) -> KeptFiles<'a, R> {
         KeptFiles {
             rt,
             texts,

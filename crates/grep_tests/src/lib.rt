@@ -2,10 +2,10 @@
 //! stand in a crate of their own.
 #![tactic(auto)]
 
+mod borrowed_texts;
 #[cfg(test)]
 mod kept_files;
-mod lent_texts;
 #[cfg(test)]
 mod runs;
 
-pub use lent_texts::{LentTexts, Text};
+pub use borrowed_texts::{BorrowedTexts, Text};

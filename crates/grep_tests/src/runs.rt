@@ -1,6 +1,6 @@
-//! Runs over sources that are told.
+//! Runs over known sources.
+use crate::borrowed_texts::{BorrowedTexts, Text};
 use crate::kept_files::KeptFiles;
-use crate::lent_texts::{LentTexts, Text};
 use byte_io::{ByteIn, CutOut, Failed, Missing, Opener};
 use grep_run::{GrepOptions, Status, Stop, run};
 use lit_base::Fold;
@@ -38,10 +38,10 @@ fn texts(alloc: Global, words: &[&str]) -> Result<Vec<String>, AllocError> {
 }
 
 /// `f` with a line, `g` with another, `none`, and a standard input that fails behind `a\nba`.
-fn lent(alloc: Global) -> Result<LentTexts<'static>, AllocError> {
+fn borrowed(alloc: Global) -> Result<BorrowedTexts<'static>, AllocError> {
     let f = ("f", Some(Text::whole(b"a cat\ndog\n")));
     let g = ("g", Some(Text::whole(b"b\na")));
-    Ok(LentTexts {
+    Ok(BorrowedTexts {
         named: vec![in alloc; f, g, ("none", None)]?,
         standard: vec![in alloc; Text::cut(b"a\nba")]?,
     })
@@ -73,13 +73,13 @@ fn ran<R: Abort + AllocGlobal>(
     messages: &[u8],
 ) -> Result<Ran, Stop> {
     let options = options_by(rt.alloc(), flags, "a", operands)?;
-    let mut files = KeptFiles::new(rt, lent(rt.alloc())?);
+    let mut files = KeptFiles::new(rt, borrowed(rt.alloc())?);
     let (mut out_room, mut err_room) = ([0; 200], [0; 200]);
     let mut out = CutOut::within(&mut out_room);
     let mut err = CutOut::within(&mut err_room);
     let status = run(rt.alloc(), &options, &mut files, &mut out, &mut err);
-    let is_front = output.starts_with(out.written()) && files.was_asked_within(asked);
-    if status == Status::Trouble && is_front && is_starved(err.written(), messages) {
+    let is_prefix = output.starts_with(out.written()) && files.was_asked_within(asked);
+    if status == Status::Trouble && is_prefix && is_starved(err.written(), messages) {
         return Err(Stop::OutOfMemory);
     }
     let is_output = out.written() == output;
@@ -130,7 +130,7 @@ fn asks_for_nothing_after_a_line_if_quiet(rt: HostRuntime) {
 /// The status of a run whose output takes nothing, and whether it is silent.
 fn ran_full<R: Abort + AllocGlobal>(rt: &R, flags: &str) -> Result<(Status, bool), Stop> {
     let options = options_by(rt.alloc(), flags, "a", &[])?;
-    let mut files = KeptFiles::new(rt, lent(rt.alloc())?);
+    let mut files = KeptFiles::new(rt, borrowed(rt.alloc())?);
     let mut err_room = [0; 200];
     let mut out = CutOut::within(&mut []);
     let mut err = CutOut::within(&mut err_room);

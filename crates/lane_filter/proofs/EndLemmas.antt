@@ -4,7 +4,7 @@ use Rattle.std.specs.Int.{bit_at}
 use Rattle.std.proofs.lemmas.Bool.{cases_lt, cases_eq}
 use Rattle.std.proofs.lemmas.Nat.Bits.{bit_at-suc, bit_at-zero}
 use Rattle.byte_lanes.specs.Bits.{SplitsLowest}
-use Rattle.byte_lanes.specs.Lanes.{TellsBits}
+use Rattle.byte_lanes.specs.Lanes.{IsMaskOf}
 use Rattle.byte_lanes.specs.PlacesAfter.{NoneWithin, IsFirstAfter, AreMarked}
 
 module _ (P : ℕ → Type 0) where
@@ -83,11 +83,11 @@ module _ (P : ℕ → Type 0) where
         }
 
 -- the marks of 64 ends, from some position after `from` on, are the marks of the ends after it
-pub block_marked : (P : ℕ → Type 0) (from first done whole mask : ℕ) → first + 63 ≡ done → from ≤ done → first ≤ from + 1 → TellsBits P first 64 whole
+pub block_marked : (P : ℕ → Type 0) (from first done whole mask : ℕ) → first + 63 ≡ done → from ≤ done → first ≤ from + 1 → IsMaskOf P first 64 whole
     → ((k : ℕ) → (bit_at mask k ≡ 1) ↔ ((from + 1 ≤ first + k) × (bit_at whole k ≡ 1))) → AreMarked P from first done mask
-block_marked P from first done whole mask long reached low told bits =
+block_marked P from first done whole mask long reached low known bits =
     marked_by_bits P from first done mask reached long low
     (λ k. (
-      λ s. let h = (bits k).0 s in let t = (told k).0 h.1 in (h.0, t.0, t.1),
-      λ h. (bits k).1 (h.0, (told k).1 (h.1, h.2)),
+      λ s. let h = (bits k).0 s in let t = (known k).0 h.1 in (h.0, t.0, t.1),
+      λ h. (bits k).1 (h.0, (known k).1 (h.1, h.2)),
     ))

@@ -15,16 +15,16 @@ use Rattle.lit_base.specs.Literals.{Literals}
 use Rattle.lit_base.specs.Occurrences.{Occurs}
 use Rattle.nib_mask.proofs.LawLemmas.{cases_folded}
 use Rattle.nib_mask.proofs.Ranges.{get_or-range}
-use Rattle.byte_lanes.specs.Lanes.{SeesLanes, TellsBits, TellsLanes}
+use Rattle.byte_lanes.specs.Lanes.{SeesLanes, IsMaskOf, SetsLanes}
 use Rattle.lane_filter.specs.OneBytes.{IsByteOf, IsEndOfByte}
 use Rattle.lane_filter.specs.Pairs.{IsPairEnd, IsPairOf, IsRareByteOf, StandsBefore, case_bit}
 use Rattle.lane_filter.specs.declared.pair.RareByte.{RareByte}
 use Rattle.lane_filter.specs.declared.pair.BytePair.{BytePair}
 
 -- the bits that both masks have stand for the ends before which both bytes stand
-pub both_told : (pair : BytePair) (text : List ℕ) (first one other : ℕ) → pair.first.after < first → pair.second.after < first → first + 63 ≤ length text
-    → TellsBits (StandsBefore pair.first text) first 64 one → TellsBits (StandsBefore pair.second text) first 64 other → TellsBits (IsPairEnd pair text) first 64 (bit_and one other)
-both_told pair text first one other after_one after_other within of_one of_other k =
+pub both_set : (pair : BytePair) (text : List ℕ) (first one other : ℕ) → pair.first.after < first → pair.second.after < first → first + 63 ≤ length text
+    → IsMaskOf (StandsBefore pair.first text) first 64 one → IsMaskOf (StandsBefore pair.second text) first 64 other → IsMaskOf (IsPairEnd pair text) first 64 (bit_and one other)
+both_set pair text first one other after_one after_other within of_one of_other k =
     let meet = bit_at_and one other k in
     let small = bit_at-lt one k in
     let small_other = bit_at-lt other k in (
@@ -41,10 +41,10 @@ both_told pair text first one other after_one after_other within of_one of_other
     )
 
 -- one of 128 ends sets a lane of the four vectors of 32 ends
-pub told_in_four : (P : ℕ → Type 0) (answer : Type 0) (first : ℕ) (one two three four : List ℕ) → TellsLanes P first one → TellsLanes P (first + 32) two
-    → TellsLanes P (first + 64) three → TellsLanes P (first + 96) four → SeesLanes one answer → SeesLanes two answer → SeesLanes three answer → SeesLanes four answer
+pub set_in_four : (P : ℕ → Type 0) (answer : Type 0) (first : ℕ) (one two three four : List ℕ) → SetsLanes P first one → SetsLanes P (first + 32) two
+    → SetsLanes P (first + 64) three → SetsLanes P (first + 96) four → SeesLanes one answer → SeesLanes two answer → SeesLanes three answer → SeesLanes four answer
     → (k : ℕ) → k < 128 → P (first + k) → answer
-told_in_four P answer first one two three four in_one in_two in_three in_four sees_one sees_two sees_three sees_four k l holds =
+set_in_four P answer first one two three four in_one in_two in_three in_four sees_one sees_two sees_three sees_four k l holds =
     let later : (by : ℕ) → by ≤ k → P (first + by + (k - by)) =
     λ by le. let same : first + k ≡ first + by + (k - by) = omega arith in subst P same holds in
     let set : (lane : ℕ) → lane ≡ 255 → lane ≢ 0 = λ lane is none. absurd (omega (arith, is, none)) in
@@ -64,9 +64,9 @@ case_set : (a r : ℕ) → r < 32 → bit_or (a * 32 + r) 32 ≡ bit_or a 1 * 32
 case_set a r small = or_block 5 a 1 r 0 small (omega arith) ∙ ap (λ x. bit_or a 1 * 32 + x) (or_zero_r r)
 
 -- with the bit of its case set, a byte is the byte that it folds to
-pub case_told : (fold : Fold) (byte other : ℕ) → folded fold byte ≡ other → bit_or byte (case_bit fold other) ≡ other
-case_told No byte other is = or_zero_r byte ∙ is
-case_told Ascii byte other is =
+pub case_masked : (fold : Fold) (byte other : ℕ) → folded fold byte ≡ other → bit_or byte (case_bit fold other) ≡ other
+case_masked No byte other is = or_zero_r byte ∙ is
+case_masked Ascii byte other is =
     elim (cases_Bool (leb 97 other && leb other 122)) [
       | inl letter ↦
           let parts = and_parts (leb 97 other) (leb other 122) letter in
@@ -109,7 +109,7 @@ rare_stands l text place end at rare occurs is =
     let here : get_or text (end - 1 - rare.after) 0 ≡ get_or slice at 0 = ap (λ k. get_or text k 0) where_is ∙ sym in_slice in
     let folds : folded l.folding (get_or slice at 0) ≡ get_or literal at 0 =
     sym (get_or-map (folded l.folding) slice at 0 0 (omega (arith, size))) ∙ ap (λ t. get_or t at 0) occurs.bytes in
-    (omega arith, (λ i. bit_or (here i) (is.case_bit i)) ∙ case_told l.folding _ _ folds ∙ sym is.byte)
+    (omega arith, (λ i. bit_or (here i) (is.case_bit i)) ∙ case_masked l.folding _ _ folds ∙ sym is.byte)
 
 -- the only byte of a literal is the last before each place where it ends
 pub byte_stands : (l : Literals) (place byte bit : ℕ) → IsByteOf l place byte bit → (text : List ℕ) (end : ℕ) → Occurs l text place end → IsEndOfByte byte bit text end

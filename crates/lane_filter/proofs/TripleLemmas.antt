@@ -7,16 +7,16 @@ use Rattle.std.proofs.lemmas.Option.{get_or_from_slice_get}
 use Rattle.lit_base.specs.Literals.{Literals}
 use Rattle.lit_base.specs.Occurrences.{Occurs}
 use Rattle.lane_filter.proofs.PairLemmas.{pair_stands, rare_stands}
-use Rattle.byte_lanes.specs.Lanes.{TellsBits}
+use Rattle.byte_lanes.specs.Lanes.{IsMaskOf}
 use Rattle.lane_filter.specs.Pairs.{IsOneOf, IsPairEnd, IsRareByteOf, StandsBefore}
 use Rattle.lane_filter.specs.Triples.{IsTripleEnd, IsTripleOf}
 use Rattle.lane_filter.specs.declared.pair.BytePair.{BytePair}
 use Rattle.lane_filter.specs.declared.triple.ByteTriple.{ByteTriple}
 
 -- the bits that both masks have stand for the ends before which the pair and the third byte stand
-pub all_told : (triple : ByteTriple) (text : List ℕ) (first one other : ℕ) → triple.third.after < first
-    → TellsBits (IsPairEnd triple.pair text) first 64 one → TellsBits (StandsBefore triple.third text) first 64 other → TellsBits (IsTripleEnd triple text) first 64 (bit_and one other)
-all_told triple text first one other later of_one of_other k =
+pub all_set : (triple : ByteTriple) (text : List ℕ) (first one other : ℕ) → triple.third.after < first
+    → IsMaskOf (IsPairEnd triple.pair text) first 64 one → IsMaskOf (StandsBefore triple.third text) first 64 other → IsMaskOf (IsTripleEnd triple text) first 64 (bit_and one other)
+all_set triple text first one other later of_one of_other k =
     let meet = bit_at_and one other k in
     let small = bit_at-lt one k in
     let small_other = bit_at-lt other k in (

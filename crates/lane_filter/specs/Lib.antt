@@ -6,6 +6,6 @@ pub mod Prefilters
 pub mod Triples
 pub use Rattle.byte_lanes.specs.Bits
 pub use Rattle.byte_lanes.specs.Filtered
-pub use Rattle.byte_lanes.specs.Fronts
+pub use Rattle.byte_lanes.specs.Prefixes
 pub use Rattle.byte_lanes.specs.Lanes
 pub use Rattle.byte_lanes.specs.PlacesAfter

@@ -2,7 +2,7 @@
 ghost use Rattle.std.specs.Prelude.{◌≡◌, ◌+◌, ◌<◌, ◌≤◌, length, IfSome};
 ghost use Rattle.std.specs.Option.{IfNone};
 ghost use Rattle.lane_filter.specs.declared.candidates.TheConstants.{MOST_COPIED};
-ghost use Rattle.byte_lanes.specs.Fronts.{IsFrontOf};
+ghost use Rattle.byte_lanes.specs.Prefixes.{IsPrefixOf};
 ghost use Rattle.byte_lanes.specs.PlacesAfter.{NoneWithin, IsFirstAfter, AreMarked};
 ghost use Rattle.lane_filter.specs.Prefilters.{IsCandidateOfTwo, Passes};
 
@@ -102,7 +102,7 @@ fn last_bits<T: EndTest>(test: &T, text: &[u8], seen: usize) -> EndBits
 #[inline(always)]
 fn padded(text: &[u8]) -> [u8; MOST_COPIED + 64]
     requires { length text.now ≤ MOST_COPIED }
-    ensures { IsFrontOf text.now result }
+    ensures { IsPrefixOf text.now result }
 {
     let mut copy = [0; MOST_COPIED + 64];
     copy[..text.len()].copy_from_slice(text);
@@ -137,15 +137,15 @@ fn short_bits<T: EndTest>(test: &T, text: &[u8], from: usize) -> EndBits
     ensures within { result.done ≤ length text.now }
     ensures ended { result.mask ≡ 0 → result.done ≡ length text.now }
 {
-    let front = from.max(test.reach() - 1);
-    if text.len() <= front || text.len() > MOST_COPIED {
+    let prefix = from.max(test.reach() - 1);
+    if text.len() <= prefix || text.len() > MOST_COPIED {
         return plain_bits(test, text, from, text.len());
     }
-    let start = plain_bits(test, text, from, front);
+    let start = plain_bits(test, text, from, prefix);
     if start.mask != 0 {
         return start;
     }
-    copied_bits(test, text, front)
+    copied_bits(test, text, prefix)
 }
 
 /// The first ends after a position with a candidate among them, or none at the end of the text. Testing 64 at a time
@@ -160,12 +160,12 @@ fn next_bits<T: EndTest>(test: &T, text: &[u8], from: usize) -> EndBits
     if text.len() < reach + 63 {
         return short_bits(test, text, from);
     }
-    let front = from.max(reach - 1);
-    let start = plain_bits(test, text, from, front);
+    let prefix = from.max(reach - 1);
+    let start = plain_bits(test, text, from, prefix);
     if start.mask != 0 {
         return start;
     }
-    wide_bits(test, text, front)
+    wide_bits(test, text, prefix)
 }
 
 /// The first ends after a position that include one passed by the prefilter, or none at the end of the text. The test

@@ -1,6 +1,6 @@
 //! The test of ends by the only byte of a literal.
 ghost use Rattle.std.specs.Prelude.{◌≡◌, ℕ, ◌+◌, ◌<◌, ◌≤◌, ◌↔◌, IfSome, IsSome, List, length, slice_index};
-ghost use Rattle.byte_lanes.specs.Lanes.{TellsLanes};
+ghost use Rattle.byte_lanes.specs.Lanes.{SetsLanes};
 ghost use Rattle.lane_filter.specs.OneBytes.{IsByteOf, IsEndOfByte};
 ghost use Rattle.lit_base.specs.Literals.{lengths};
 ghost use Rattle.lit_base.specs.Occurrences.{Occurs};
@@ -41,7 +41,7 @@ impl OneByte {
     fn lanes(&self, text: &[u8], first: usize) -> u8x32
         requires after { 0 < first }
         requires within { first + 31 ≤ length text.now }
-        ensures { TellsLanes (IsEndOfByte self.now.byte self.now.case_bit text.now) first result }
+        ensures { SetsLanes (IsEndOfByte self.now.byte self.now.case_bit text.now) first result }
     {
         let bytes = load(text, first - 1);
         value_where(with_bits(bytes, self.case_bit), self.byte, 255)

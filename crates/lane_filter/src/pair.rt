@@ -1,6 +1,6 @@
 //! Two bytes of a literal that are rare in usual text: where not both stand, it does not end.
 ghost use Rattle.std.specs.Prelude.{◌≡◌, ◌≢◌, ℕ, ◌+◌, ◌-◌, ◌^◌, ◌<◌, ◌≤◌, ◌↔◌, IfSome, IsTrue, List, length, slice_index, slice_index_or, max};
-ghost use Rattle.byte_lanes.specs.Lanes.{HoldsBelow, TellsBits, TellsLanes};
+ghost use Rattle.byte_lanes.specs.Lanes.{HoldsBelow, IsMaskOf, SetsLanes};
 ghost use Rattle.lane_filter.specs.Pairs.{AreUnlike, IsExact, IsOneOf, IsPairEnd, IsPairOf, IsRareByteOf, StandsBefore, case_bit};
 ghost use Rattle.lit_base.specs.declared.fold.Fold.{Fold};
 ghost use Rattle.lit_base.specs.Occurrences.{Occurs};
@@ -95,7 +95,7 @@ impl RareByte {
     pub(crate) fn lanes(&self, text: &[u8], first: usize) -> u8x32
         requires after { self.now.after < first }
         requires within { first + 31 ≤ length text.now }
-        ensures { TellsLanes (StandsBefore self.now text.now) first result }
+        ensures { SetsLanes (StandsBefore self.now text.now) first result }
     {
         let bytes = load(text, first - 1 - usize::from(self.after));
         value_where(with_bits(bytes, self.case_bit), self.byte, 255)
@@ -121,7 +121,7 @@ impl RareByte {
     pub(crate) fn marks(&self, text: &[u8], first: usize) -> u64
         requires after { self.now.after < first }
         requires within { first + 63 ≤ length text.now }
-        ensures { TellsBits (StandsBefore self.now text.now) first 64 result }
+        ensures { IsMaskOf (StandsBefore self.now text.now) first 64 result }
     {
         equal_bits(self.bytes_before(text, first), self.case_bit, self.byte)
     }
@@ -186,7 +186,7 @@ impl BytePair {
     pub(crate) fn lanes(&self, text: &[u8], first: usize) -> u8x32
         requires after { max self.now.first.after self.now.second.after < first }
         requires within { first + 31 ≤ length text.now }
-        ensures { TellsLanes (IsPairEnd self.now text.now) first result }
+        ensures { SetsLanes (IsPairEnd self.now text.now) first result }
     {
         both(
             self.first.lanes(text, first),

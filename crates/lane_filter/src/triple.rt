@@ -1,6 +1,6 @@
 //! Three bytes of a literal that are rare in usual text: where not all of them stand, it does not end.
 ghost use Rattle.std.specs.Prelude.{◌≡◌, ◌↔◌, ℕ, ◌+◌, ◌-◌, ◌^◌, ◌<◌, ◌≤◌, IsTrue, List, length};
-ghost use Rattle.byte_lanes.specs.Lanes.{TellsLanes};
+ghost use Rattle.byte_lanes.specs.Lanes.{SetsLanes};
 ghost use Rattle.lane_filter.specs.Pairs.{IsOneOf};
 ghost use Rattle.lane_filter.specs.Triples.{AreExact, IsTripleEnd, IsTripleOf, most_after};
 ghost use Rattle.lit_base.specs.Occurrences.{Occurs};
@@ -64,7 +64,7 @@ impl ByteTriple {
     fn lanes(&self, text: &[u8], first: usize) -> u8x32
         requires after { most_after self.now < first }
         requires within { first + 31 ≤ length text.now }
-        ensures { TellsLanes (IsTripleEnd self.now text.now) first result }
+        ensures { SetsLanes (IsTripleEnd self.now text.now) first result }
     {
         both(self.pair.lanes(text, first), self.third.lanes(text, first))
     }

@@ -9,7 +9,7 @@ use Rattle.line_pick.specs.declared.sink.Next.TheVariants.{More}
 use Rattle.text_lines.specs.HitLines.{IsFirstHitLine}
 use Rattle.line_pick.specs.Emitting.{Emitted, as_numbered, numbered}
 use Rattle.line_pick.proofs.AroundHitLines.{hit-numbered}
-use Rattle.line_pick.proofs.EmittedLemmas.{EmittedOn, EmittedOn-front, EmittedOn-last}
+use Rattle.line_pick.proofs.EmittedLemmas.{EmittedOn, EmittedOn-prefix, EmittedOn-last}
 use Rattle.line_pick.proofs.NumberLemmas.{Emitted-moved, Emitted-taken, EmittedOn-moved}
 
 module _ {S : Type 0} (takes : S → ℕ → List ℕ → Result Next Fault → S → Type 0) (is_numbered whole invert : Bool) where
@@ -32,7 +32,7 @@ module _ {S : Type 0} (takes : S → ℕ → List ℕ → Result Next Fault → 
     -- all lines before it were taken, and `lines` is their number where lines are numbered
     module _ {compiled : Plan} (is : compiled ≡ plan) {selected : Bool} (selects : selected ≡ is_selected compiled.literals.folding whole invert compiled.literals.texts line) {lines : ℕ} (count : is_numbered ≡ true → lines ≡ later) {u : S} (emitted-missed : Emitted (as_numbered is_numbered takes) t (numbered (λ _. invert) before (ended_lines missed)) (Ok More) u) where
       on-line : EmittedOn (as_numbered is_numbered takes) s all u (numbered (λ _. selected) later (line ∷ []) ++ numbered test (later + 1) (ended_lines after))
-      on-line = EmittedOn-front on (parts selected (subst (λ (p : Plan). selected ≡ is_selected p.literals.folding whole invert p.literals.texts line) is selects)) emitted-missed
+      on-line = EmittedOn-prefix on (parts selected (subst (λ (p : Plan). selected ≡ is_selected p.literals.folding whole invert p.literals.texts line) is selects)) emitted-missed
 
       emitted-line : {v : S} {answer : Result Next Fault} → Emitted takes u (numbered (λ _. selected) lines (line ∷ [])) answer v → Emitted (as_numbered is_numbered takes) u (numbered (λ _. selected) later (line ∷ [])) answer v
       emitted-line emitted = Emitted-moved takes (λ _. selected) lines later (line ∷ []) is_numbered count (Emitted-taken takes is_numbered emitted)
@@ -43,4 +43,4 @@ module _ {S : Type 0} (takes : S → ℕ → List ℕ → Result Next Fault → 
 
       -- its line was taken too
       pub EmittedOn-hit : {v : S} → Emitted takes u (numbered (λ _. selected) lines (line ∷ [])) (Ok More) v → EmittedOn (as_numbered is_numbered takes) s all v (numbered test (lines + 1) (ended_lines after))
-      EmittedOn-hit emitted = EmittedOn-moved takes test (lines + 1) (later + 1) (ended_lines after) is_numbered (λ e. ap (λ n. n + 1) (count e)) (EmittedOn-front on-line refl (emitted-line emitted))
+      EmittedOn-hit emitted = EmittedOn-moved takes test (lines + 1) (later + 1) (ended_lines after) is_numbered (λ e. ap (λ n. n + 1) (count e)) (EmittedOn-prefix on-line refl (emitted-line emitted))

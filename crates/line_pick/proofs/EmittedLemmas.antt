@@ -75,12 +75,12 @@ module _ {S : Type 0} {takes : S → ℕ → List ℕ → Result Next Fault → 
 
   pub Emits-halted : {s t : S} {lines : List (ℕ × List ℕ)} {answer : Result Next Fault} (more : List (ℕ × List ℕ)) → Emits takes s lines answer t → answer ≢ Ok More → Emits takes s (lines ++ more) answer t
   Emits-halted more (Whole h) halted = Whole (Emitted-halted more h halted)
-  Emits-halted more (Starved front rest parts h) halted = Starved front (rest ++ more) (ap (λ ls. ls ++ more) parts ∙ append_assoc front rest more) h
+  Emits-halted more (Starved prefix rest parts h) halted = Starved prefix (rest ++ more) (ap (λ ls. ls ++ more) parts ∙ append_assoc prefix rest more) h
   Emits-halted more Refused halted = Refused
 
   pub Emits-join : {s t u : S} {lines more : List (ℕ × List ℕ)} {answer : Result Next Fault} → Emitted takes s lines (Ok More) t → Emits takes t more answer u → answer ≢ Err StreamTooLong → Emits takes s (lines ++ more) answer u
   Emits-join h (Whole later) short = Whole (Emitted-join h later)
-  Emits-join {lines = lines} h (Starved front rest parts later) short = Starved (lines ++ front) rest (ap (λ ls. lines ++ ls) parts ∙ sym (append_assoc lines front rest)) (Emitted-join h later)
+  Emits-join {lines = lines} h (Starved prefix rest parts later) short = Starved (lines ++ prefix) rest (ap (λ ls. lines ++ ls) parts ∙ sym (append_assoc lines prefix rest)) (Emitted-join h later)
   Emits-join h Refused short = absurd (short refl)
 
   -- where the sink wants more, all lines were emitted
@@ -172,12 +172,12 @@ module _ {S : Type 0} {takes : S → ℕ → List ℕ → Result Next Fault → 
   pub EmittedOn-halted : {s t u : S} {whole : List (ℕ × List ℕ)} {answer : Result Next Fault} → EmittedOn takes s whole t (numbered test before (ended_lines text)) → Emitted takes t (numbered test before (line ∷ [])) answer u → answer ≢ Ok More → Emitted takes s whole answer u
   EmittedOn-halted {t = t} {u = u} {answer = answer} p h halted = p.go answer u (subst (λ ls. Emitted takes t ls answer u) (sym (numbered-first test before text line rest cut)) (Emitted-halted (numbered test (before + 1) (ended_lines rest)) h halted))
 
--- a front of the remaining lines was taken
-pub EmittedOn-front : {S : Type 0} {takes : S → ℕ → List ℕ → Result Next Fault → S → Type 0} {s t u : S} {whole all front rest : List (ℕ × List ℕ)} → EmittedOn takes s whole t all → all ≡ front ++ rest → Emitted takes t front (Ok More) u → EmittedOn takes s whole u rest
-EmittedOn-front {takes = takes} {t = t} p parts h = record { go = λ answer v later. p.go answer v (subst (λ ls. Emitted takes t ls answer v) (sym parts) (Emitted-join h later)) }
+-- a prefix of the remaining lines was taken
+pub EmittedOn-prefix : {S : Type 0} {takes : S → ℕ → List ℕ → Result Next Fault → S → Type 0} {s t u : S} {whole all prefix rest : List (ℕ × List ℕ)} → EmittedOn takes s whole t all → all ≡ prefix ++ rest → Emitted takes t prefix (Ok More) u → EmittedOn takes s whole u rest
+EmittedOn-prefix {takes = takes} {t = t} p parts h = record { go = λ answer v later. p.go answer v (subst (λ ls. Emitted takes t ls answer v) (sym parts) (Emitted-join h later)) }
 
 -- one of its lines was the last
-pub EmittedOn-last : {S : Type 0} {takes : S → ℕ → List ℕ → Result Next Fault → S → Type 0} {s t u : S} {whole all front : List (ℕ × List ℕ)} {answer : Result Next Fault} (rest : List (ℕ × List ℕ)) → EmittedOn takes s whole t all → all ≡ front ++ rest → Emitted takes t front answer u → answer ≢ Ok More → Emitted takes s whole answer u
+pub EmittedOn-last : {S : Type 0} {takes : S → ℕ → List ℕ → Result Next Fault → S → Type 0} {s t u : S} {whole all prefix : List (ℕ × List ℕ)} {answer : Result Next Fault} (rest : List (ℕ × List ℕ)) → EmittedOn takes s whole t all → all ≡ prefix ++ rest → Emitted takes t prefix answer u → answer ≢ Ok More → Emitted takes s whole answer u
 EmittedOn-last {takes = takes} {t = t} {u = u} {answer = answer} rest p parts h halted = p.go answer u (subst (λ ls. Emitted takes t ls answer u) (sym parts) (Emitted-halted rest h halted))
 
 -- with no newline left, all lines were taken

@@ -36,14 +36,14 @@ Emitted-renumbered {others = others} P step ((m, line') ∷ under) same p (LastO
     let is : line ≡ line' = (cc) in
     LastOne (subst (λ l. others s m l answer t) is (step s t number m line answer p h).0) last
 
--- a front of lines is one under other numbers too
-front-renumbered : (front rest under : List (ℕ × List ℕ)) → bare (front ++ rest) ≡ bare under → (f : List (ℕ × List ℕ)) × (r : List (ℕ × List ℕ)) × (under ≡ f ++ r) × (bare front ≡ bare f)
-front-renumbered [] rest under same = ([], under, refl, refl)
-front-renumbered (x ∷ front) rest [] same = absurd (cc)
-front-renumbered (x ∷ front) rest (y ∷ under) same =
-    let w = front-renumbered front rest under (cc) in
+-- a prefix of lines is one under other numbers too
+prefix-renumbered : (prefix rest under : List (ℕ × List ℕ)) → bare (prefix ++ rest) ≡ bare under → (f : List (ℕ × List ℕ)) × (r : List (ℕ × List ℕ)) × (under ≡ f ++ r) × (bare prefix ≡ bare f)
+prefix-renumbered [] rest under same = ([], under, refl, refl)
+prefix-renumbered (x ∷ prefix) rest [] same = absurd (cc)
+prefix-renumbered (x ∷ prefix) rest (y ∷ under) same =
+    let w = prefix-renumbered prefix rest under (cc) in
     let first : x.1 ≡ y.1 = (cc) in
-    (y ∷ w.0, w.1, ap (λ ls. y ∷ ls) w.2, ap (λ l. l ∷ bare front) first ∙ ap (λ ls. y.1 ∷ ls) w.3)
+    (y ∷ w.0, w.1, ap (λ ls. y ∷ ls) w.2, ap (λ l. l ∷ bare prefix) first ∙ ap (λ ls. y.1 ∷ ls) w.3)
 
 module _ {S : Type 0} (takes : S → ℕ → List ℕ → Result Next Fault → S → Type 0) where
   -- lines that are emitted under their numbers are emitted
@@ -55,7 +55,7 @@ module _ {S : Type 0} (takes : S → ℕ → List ℕ → Result Next Fault → 
 
   pub Emits-taken : (is_numbered : Bool) {s t : S} {lines : List (ℕ × List ℕ)} {answer : Result Next Fault} → Emits takes s lines answer t → Emits (as_numbered is_numbered takes) s lines answer t
   Emits-taken is_numbered (Whole h) = Whole (Emitted-taken is_numbered h)
-  Emits-taken is_numbered (Starved front rest parts h) = Starved front rest parts (Emitted-taken is_numbered h)
+  Emits-taken is_numbered (Starved prefix rest parts h) = Starved prefix rest parts (Emitted-taken is_numbered h)
   Emits-taken is_numbered Refused = Refused
 
   -- lines are numbered or not as they were
@@ -68,8 +68,8 @@ module _ {S : Type 0} (takes : S → ℕ → List ℕ → Result Next Fault → 
 
   Emits-under : {s t : S} {lines : List (ℕ × List ℕ)} {answer : Result Next Fault} (under : List (ℕ × List ℕ)) → bare lines ≡ bare under → Emits (as_numbered false takes) s lines answer t → Emits (as_numbered false takes) s under answer t
   Emits-under under same (Whole h) = Whole (Emitted-under under same h)
-  Emits-under under same (Starved front rest parts h) =
-      let w = front-renumbered front rest under (ap bare (sym parts) ∙ same) in
+  Emits-under under same (Starved prefix rest parts h) =
+      let w = prefix-renumbered prefix rest under (ap bare (sym parts) ∙ same) in
       Starved w.0 w.1 w.2 (Emitted-under w.0 w.3 h)
   Emits-under under same Refused = Refused
 

@@ -17,7 +17,7 @@ use Rattle.lit_base.proofs.EndedLemmas.{ended_lines-newline, ended_lines-none, o
 use Rattle.lit_base.proofs.MatchLemmas.{matching}
 use Rattle.lit_base.proofs.PieceLemmas.{null_if}
 use Rattle.lit_plan.specs.Plans.{Plan}
-use Rattle.text_ends.proofs.Occurring.{occurs_after, occurs_in_front, occurs_in_rest, occurs_of_front}
+use Rattle.text_ends.proofs.Occurring.{occurs_after, occurs_in_prefix, occurs_in_rest, occurs_of_prefix}
 use Rattle.line_pick.specs.Emitting.{numbered}
 use Rattle.line_pick.specs.Matching.{fold_of, literals_of, literals_and_null}
 use Rattle.line_pick.specs.OpenLines.{Decides, IsDecided, IsDecidingPart}
@@ -101,7 +101,7 @@ module _ (l : Literals) (normal : IsNormal l) where
   -- a literal that ends at the end of a text is there however the text goes on
   pub end-stays : (line more : List ℕ) (end : ℕ) → HasEnd l line end → matches l.folding false l.texts (line ++ more) ≡ true
   end-stays line more end h =
-      (matching.matches l.folding false l.texts (line ++ more)).1 (match-from_end l normal (line ++ more) end (h.0, occurs_of_front l line more h.0 end h.1))
+      (matching.matches l.folding false l.texts (line ++ more)).1 (match-from_end l normal (line ++ more) end (h.0, occurs_of_prefix l line more h.0 end h.1))
 
   -- one that a search finds there
   pub found-stays : (line more : List ℕ) (found : Option ℕ) → MatchOption found (NoneEnds l line 0 (length line)) (IsFirstEnding l line 0 (length line)) → is_some found ≡ true → matches l.folding false l.texts (line ++ more) ≡ true
@@ -127,7 +127,7 @@ module _ (l : Literals) (normal : IsNormal l) (longest : ℕ) (bound : All (λ l
       let at : end ≡ length a + length kept = omega (arith, low, size) in
       let moved : Occurs l (a ++ (kept ++ b)) h.0 (length a + length kept) = subst (λ t. Occurs l t h.0 (length a + length kept)) (three-parts line start end) (subst (λ e. Occurs l line h.0 e) at h.1) in
       let small : length moved.literal ≤ length kept = omega (arith, fits (a ++ (kept ++ b)) h.0 (length a + length kept) moved, moved.begins, low, size, at) in
-      (h.0, occurs_in_front l kept b h.0 (length kept) (omega arith) (occurs_in_rest l a (kept ++ b) h.0 (length kept) moved small))
+      (h.0, occurs_in_prefix l kept b h.0 (length kept) (omega arith) (occurs_in_rest l a (kept ++ b) h.0 (length kept) moved small))
 
   -- there is a literal where one ends
   some-literal : (line : List ℕ) (end : ℕ) → HasEnd l line end → 0 < longest
@@ -184,7 +184,7 @@ module _ (l : Literals) (normal : IsNormal l) (longest : ℕ) (bound : All (λ l
         let w = end-from_match l normal (line ++ more) ((matching.matches l.folding false l.texts (line ++ more)).0 e) in
         let late : length line < w.0 = elim (cases_lt (length line) w.0) [
           | inl after ↦ after
-          | inr within ↦ absurd (none w.0 w.1 (w.2.0, occurs_in_front l line more w.2.0 w.0 within w.2.1))
+          | inr within ↦ absurd (none w.0 w.1 (w.2.0, occurs_in_prefix l line more w.2.0 w.0 within w.2.1))
         ] in
         let at : w.0 ≡ length before + (w.0 - start) = omega (arith, before-len, late) in
         let moved : Occurs l (before ++ (tail ++ more)) w.2.0 (length before + (w.0 - start)) =

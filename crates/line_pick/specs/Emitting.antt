@@ -27,7 +27,7 @@ pub data Emitted {S : Type 0} (takes : S → ℕ → List ℕ → Result Next Fa
 -- lines are emitted; or memory ran out after a prefix of them; or none is, where the stream would become too long
 pub data Emits {S : Type 0} (takes : S → ℕ → List ℕ → Result Next Fault → S → Type 0) : S → List (ℕ × List ℕ) → Result Next Fault → S → Type 0 where
   Whole : {s t : S} {lines : List (ℕ × List ℕ)} {answer : Result Next Fault} → Emitted takes s lines answer t → Emits takes s lines answer t
-  Starved : {s t : S} {lines : List (ℕ × List ℕ)} (front rest : List (ℕ × List ℕ)) → lines ≡ front ++ rest → Emitted takes s front (Ok More) t → Emits takes s lines (Err OutOfMemory) t
+  Starved : {s t : S} {lines : List (ℕ × List ℕ)} (prefix rest : List (ℕ × List ℕ)) → lines ≡ prefix ++ rest → Emitted takes s prefix (Ok More) t → Emits takes s lines (Err OutOfMemory) t
   Refused : {s : S} {lines : List (ℕ × List ℕ)} → Emits takes s lines (Err StreamTooLong) s
 
 -- the answer where emitting ends so

@@ -83,8 +83,8 @@ impl Progress {
         }
         match split_line(piece) {
             None => self.hold_open(search, piece),
-            Some((front, after)) => {
-                self.end_line(search.matcher, front, sink)?;
+            Some((prefix, after)) => {
+                self.end_line(search.matcher, prefix, sink)?;
                 self.take_lines(search, after, sink)
             }
         }
@@ -173,25 +173,25 @@ impl Progress {
     fn end_line<S: Sink>(
         &mut self,
         matcher: Matcher<'_>,
-        front: &[u8],
+        prefix: &[u8],
         sink: &mut S,
     ) -> Result<(), Halt>
         requires sound { IsSound self.old }
-        requires one { IsOnePiece front.now }
-        requires counted { self.old.lines + vec_len self.old.held + length front.now + 1
+        requires one { IsOnePiece prefix.now }
+        requires counted { self.old.lines + vec_len self.old.held + length prefix.now + 1
             ≤ self.old.bytes }
         ensures sound { IsSound self.new }
         ensures seen { self.new.has_bytes ≡ self.old.has_bytes }
         ensures numbered { self.new.is_numbered ≡ self.old.is_numbered }
         ensures emitted { Emits S.takes sink.old
-            (numbered (picks matcher.entry) self.old.lines ((self.old.held.items ++ front.now) ∷ []))
+            (numbered (picks matcher.entry) self.old.lines ((self.old.held.items ++ prefix.now) ∷ []))
             (answer_of result) sink.new }
         ensures held { OnOk result (self.new.held.items ≡ []) }
         ensures lines { OnOk result (self.new.lines ≡ self.old.lines + 1) }
         ensures bytes { self.new.bytes ≡ self.old.bytes }
         ensures faults { result ≢ Err (Halt.Failed Fault.StreamTooLong) }
     {
-        self.hold(front)?;
+        self.hold(prefix)?;
         emit_selected(matcher, self.held.as_slice(), self.lines, sink)?;
         self.held.clear();
         self.lines += 1;

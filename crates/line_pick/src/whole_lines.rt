@@ -10,7 +10,7 @@ use list_index::ListIndex;
 use lit_base::{Fold, fold_byte};
 use std::marker::Model;
 
-/// Lengths that are told apart: all from this one less 1 on count as one.
+/// How many lengths are distinguished: all from this one less 1 on count as one.
 const LENGTHS: usize = 16;
 
 /// An entry for each length and each first byte.

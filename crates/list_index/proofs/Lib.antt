@@ -1,6 +1,6 @@
 pub mod AloneLemmas
 pub mod ChainLemmas
 pub mod CheckLemmas
-pub mod MarkLemmas
+pub mod HashBitLemmas
 pub mod ShortEnds
 pub mod SuffixLemmas

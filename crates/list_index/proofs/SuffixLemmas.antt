@@ -22,7 +22,7 @@ use Rattle.lit_base.specs.declared.fold.Fold.TheVariants.{No, Ascii}
 use Rattle.lit_base.specs.Folding.{folded, folded_text}
 use Rattle.lit_base.specs.Literals.{Literals, literal_at}
 use Rattle.lit_base.specs.Occurrences.{Occurs}
-use Rattle.lit_base.proofs.FoldLemmas.{front_folds, unfolded}
+use Rattle.lit_base.proofs.FoldLemmas.{prefix_folds, unfolded}
 use Rattle.list_index.specs.Suffixes.{spelled, case_bits, last_bits, suffix_key}
 
 -- the elements are bytes
@@ -78,11 +78,11 @@ pub padded : (xs bytes : List ℕ) → xs ≡ bytes → length bytes ≤ 8
     → from_le_bytes w64 (put_mid (8 - length bytes) (8 - (8 - length bytes)) (replicate 8 0) xs) ≡ spelled (replicate (8 - length bytes) 0 ++ bytes)
 padded xs bytes same few =
     let room : ℕ = 8 - length bytes in
-    let front : take room (replicate 8 0) ≡ replicate room 0 = take-replicate room 8 0 (omega arith) in
+    let prefix : take room (replicate 8 0) ≡ replicate room 0 = take-replicate room 8 0 (omega arith) in
     let after : drop (8 - room) (drop room (replicate 8 0)) ≡ [] =
     drop-drop (8 - room) room (replicate 8 0) ∙ drop_all (room + (8 - room)) (replicate 8 0) (omega (arith, length-replicate {A = ℕ} 8 0)) in
     let list : put_mid room (8 - room) (replicate 8 0) xs ≡ replicate room 0 ++ bytes =
-    ap (λ z. z ++ (xs ++ drop (8 - room) (drop room (replicate 8 0)))) front
+    ap (λ z. z ++ (xs ++ drop (8 - room) (drop room (replicate 8 0)))) prefix
     ∙ ap (λ z. replicate room 0 ++ (xs ++ z)) after
     ∙ ap (λ z. replicate room 0 ++ z) (append-nil xs ∙ same) in
     ap (from_le_bytes w64) list ∙ read_is_spelled (replicate room 0 ++ bytes) (padded_len bytes few)
@@ -230,15 +230,15 @@ same_key_inside : (fold : Fold) (text t : List ℕ) (end width back : ℕ) → A
 unfolding suffix_key
 same_key_inside fold text t end width back bytes narrow wide begins inside is =
     let n : ℕ = length t - back in
-    let front : List ℕ = take n t in
-    let len : length front ≡ n = omega (arith, length-take n t) in
-    let from : end - back - length front ≡ end - length t = omega arith in
-    let there : folded_text fold (slice_range text (end - back - length front) (end - back)) ≡ front =
-    ap (λ k. folded_text fold (slice_range text k (end - back))) from ∙ front_folds fold text t end back (omega arith) begins is in
-    let part : slice_range front (n - width) n ≡ slice_range t (n - width) n =
-    between_is front (n - width) n ∙ ap (drop (n - width)) (take-take n n t (omega arith)) ∙ sym (between_is t (n - width) n) in
-    same_key fold text front (end - back) width bytes narrow (omega arith) (omega arith) (omega arith) there
-    ∙ ap (λ k. suffix_key fold front k width) len
+    let prefix : List ℕ = take n t in
+    let len : length prefix ≡ n = omega (arith, length-take n t) in
+    let from : end - back - length prefix ≡ end - length t = omega arith in
+    let there : folded_text fold (slice_range text (end - back - length prefix) (end - back)) ≡ prefix =
+    ap (λ k. folded_text fold (slice_range text k (end - back))) from ∙ prefix_folds fold text t end back (omega arith) begins is in
+    let part : slice_range prefix (n - width) n ≡ slice_range t (n - width) n =
+    between_is prefix (n - width) n ∙ ap (drop (n - width)) (take-take n n t (omega arith)) ∙ sym (between_is t (n - width) n) in
+    same_key fold text prefix (end - back) width bytes narrow (omega arith) (omega arith) (omega arith) there
+    ∙ ap (λ k. suffix_key fold prefix k width) len
     ∙ ap (λ s. bit_or (spelled (replicate (8 - width) 0 ++ s)) (case_bits fold)) part
 
 pub key-occurs_inside : (l : Literals) (text : List ℕ) (place end width back : ℕ) → AreBytes text → width ≤ 8 → width + back ≤ length (literal_at l place) → Occurs l text place end
@@ -263,10 +263,10 @@ spelled_once (x ∷ xs) (y ∷ ys) h g len same =
     λ i. first i ∷ tails i
 
 -- where case counts, texts with equal keys of all bytes are equal
-key_tells : (xs ys : List ℕ) (end : ℕ) → AreBytes xs → AreBytes ys → length xs ≤ 8 → length xs ≤ end → end ≤ length ys → suffix_key No ys end (length xs) ≡ suffix_key No xs (length xs) (length xs)
+equal_by_key : (xs ys : List ℕ) (end : ℕ) → AreBytes xs → AreBytes ys → length xs ≤ 8 → length xs ≤ end → end ≤ length ys → suffix_key No ys end (length xs) ≡ suffix_key No xs (length xs) (length xs)
     → slice_range ys (end - length xs) end ≡ xs
 unfolding suffix_key
-key_tells xs ys end bytes others narrow room inside same =
+equal_by_key xs ys end bytes others narrow room inside same =
     let width : ℕ = length xs in
     let zeros : List ℕ = replicate (8 - width) 0 in
     let part : List ℕ = slice_range ys (end - width) end in
@@ -292,5 +292,5 @@ occurs-key l text place end width bytes others case inside len narrow room withi
       stands = slice_get-get_or l.texts place [] inside;
       begins = omega (arith, len, room);
       ends = within;
-      bytes = ap (λ f. folded_text f part) case ∙ unfolded part ∙ key_tells t text end others bytes (omega (arith, len, narrow)) (omega (arith, len, room)) within whole;
+      bytes = ap (λ f. folded_text f part) case ∙ unfolded part ∙ equal_by_key t text end others bytes (omega (arith, len, narrow)) (omega (arith, len, room)) within whole;
     }

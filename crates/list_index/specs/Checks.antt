@@ -6,7 +6,7 @@ use Rattle.list_index.specs.declared.suffixes.checks.TheConstants.{CHECK_BITS}
 use Rattle.list_index.specs.Chains.{AreChainsOf, key_width_at}
 use Rattle.lit_base.specs.declared.fold.Fold.{Fold}
 use Rattle.lit_base.specs.Literals.{Literals, literal_at}
-use Rattle.list_index.specs.Marks.{AreMarksOf, IsMarked}
+use Rattle.list_index.specs.HashBits.{AreHashBitsOf, IsMarked}
 use Rattle.list_index.specs.Suffixes.{case_bits, hash_of, suffix_key, key_width}
 
 -- the hash of a key has the bit of a width
@@ -46,5 +46,5 @@ pub record AreChecksOf (l : Literals) (checks : SuffixChecks) : Type 0 where
 -- chains, hash bits and checks of the literals
 pub record AreSuffixesOf (l : Literals) (suffixes : Suffixes) : Type 0 where
   pub chains : AreChainsOf l suffixes.chains
-  pub marks : AreMarksOf l suffixes.marks
+  pub hash_bits : AreHashBitsOf l suffixes.hash_bits
   pub checks : AreChecksOf l suffixes.checks

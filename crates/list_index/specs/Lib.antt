@@ -3,5 +3,5 @@ pub mod Chains
 pub mod Checks
 pub mod EndingCursors
 pub mod EndingViews
-pub mod Marks
+pub mod HashBits
 pub mod Suffixes

@@ -1,8 +1,8 @@
 //! The last bytes of a list's literals, by which the literals that end at a position are found.
 mod chains;
 mod checks;
+mod hash_bits;
 mod key;
-mod marks;
 
 ghost use Rattle.std.specs.Prelude.{◌≡◌, ℕ, ◌+◌, ◌-◌, ◌^◌, ◌<◌, ◌≤◌, IfOk, IfSome, MatchOption, length};
 ghost use Rattle.std.specs.Int.{bit_at};
@@ -14,9 +14,9 @@ ghost use Rattle.list_index.specs.declared.suffixes.checks.TheConstants.{CHECK_B
 
 use crate::suffixes::chains::SuffixChains;
 use crate::suffixes::checks::SuffixChecks;
+use crate::suffixes::hash_bits::HashBits;
+pub use crate::suffixes::hash_bits::{HASH_BITS, is_marked, mark, mark_literal};
 pub use crate::suffixes::key::{case_bits, hash_of, last_bits, last_word, suffix_key};
-use crate::suffixes::marks::SuffixMarks;
-pub use crate::suffixes::marks::{HASH_BITS, is_marked, mark, mark_literal};
 use lit_base::LitList;
 use std::alloc::{AllocError, Global};
 
@@ -25,7 +25,7 @@ use std::alloc::{AllocError, Global};
 #[derive(Debug, Drop)]
 pub(crate) struct Suffixes {
     pub chains: SuffixChains,
-    pub marks: SuffixMarks,
+    pub hash_bits: HashBits,
     pub checks: SuffixChecks,
 }
 
@@ -36,7 +36,7 @@ impl Suffixes {
     {
         Ok(Suffixes {
             chains: SuffixChains::new(alloc, list)?,
-            marks: SuffixMarks::new(alloc, list)?,
+            hash_bits: HashBits::new(alloc, list)?,
             checks: SuffixChecks::new(alloc, list)?,
         })
     }
@@ -52,7 +52,7 @@ impl Suffixes {
             (NoneEnds literals.now text.now 0 end)
             (λ place. IsFirstEnding literals.now text.now 0 end place) }
     {
-        if self.marks.rules_out(text, end) {
+        if self.hash_bits.rules_out(text, end) {
             return None;
         }
         self.next_ending(literals, text, end, 0)

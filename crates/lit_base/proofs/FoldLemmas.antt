@@ -6,10 +6,10 @@ use Rattle.lit_base.specs.declared.fold.Fold.{Fold}
 use Rattle.lit_base.specs.declared.fold.Fold.TheVariants.{No}
 use Rattle.lit_base.specs.Folding.{folded, folded_text}
 
--- of a text that folds to a literal, the front folds to the literal's front
-pub front_folds : (fold : Fold) (text t : List ℕ) (end back : ℕ) → back ≤ length t → length t ≤ end → folded_text fold (slice_range text (end - length t) end) ≡ t
+-- of a text that folds to a literal, the prefix folds to the literal's prefix
+pub prefix_folds : (fold : Fold) (text t : List ℕ) (end back : ℕ) → back ≤ length t → length t ≤ end → folded_text fold (slice_range text (end - length t) end) ≡ t
     → folded_text fold (slice_range text (end - length t) (end - back)) ≡ take (length t - back) t
-front_folds fold text t end back few begins is =
+prefix_folds fold text t end back few begins is =
     let n : ℕ = length t - back in
     let from : ℕ = end - length t in
     let count : end - back - from ≡ n = omega arith in

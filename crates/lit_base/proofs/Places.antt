@@ -23,8 +23,8 @@ zipped-push R [] (b ∷ bs) x y all here = absurd all
 zipped-push R (a ∷ more) [] x y all here = absurd all
 zipped-push R (a ∷ more) (b ∷ bs) x y all here = (all.0, zipped-push R more bs x y all.1 here)
 
--- so do the front of a list and another list, with the next element and its partner
+-- so do the prefix of a list and another list, with the next element and its partner
 pub zipped_more : {X Y : Type 0} (R : X → Y → Type 0) (xs : List X) (ys zs : List Y) (i : ℕ) (x : X) (y : Y) → i < length xs → x ≡ get_or xs i x → AllZip R (take i xs) ys → R x y → zs ≡ ys ++ y ∷ [] → AllZip R (take (i + 1) xs) zs
 zipped_more R xs ys zs i x y inside at all here is =
-    let front : take i xs ++ x ∷ [] ≡ take (i + 1) xs = ap (λ e. take i xs ++ e ∷ []) at ∙ sym (take_more xs i x inside) in
-    subst (λ ts. AllZip R ts zs) front (subst (λ us. AllZip R (take i xs ++ x ∷ []) us) (sym is) (zipped-push R (take i xs) ys x y all here))
+    let prefix : take i xs ++ x ∷ [] ≡ take (i + 1) xs = ap (λ e. take i xs ++ e ∷ []) at ∙ sym (take_more xs i x inside) in
+    subst (λ ts. AllZip R ts zs) prefix (subst (λ us. AllZip R (take i xs ++ x ∷ []) us) (sym is) (zipped-push R (take i xs) ys x y all here))

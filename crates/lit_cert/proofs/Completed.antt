@@ -8,7 +8,7 @@ use Rattle.lit_cert.specs.Certificates.{CertificateNumbers}
 use Rattle.lit_cert.specs.Spelling.{literals_in, IsCount, HasEnds, HasTextFor, rows_of, head_lines, lines_of}
 use Rattle.lit_cert.specs.Reading.{IsRow}
 use Rattle.lit_cert.proofs.Rows.{row_at}
-use Rattle.lit_cert.proofs.RowsRead.{rows_of_front}
+use Rattle.lit_cert.proofs.RowsRead.{rows_of_prefix}
 use Rattle.lit_cert.proofs.Plain.{IsMost}
 use Rattle.lit_cert.proofs.FirstBad.{length-rows_of}
 
@@ -52,16 +52,16 @@ unfolding rows_of
 take-rows_of most r n hs le = take-map-range_with_len (row_at n hs) 0 most r le
 
 -- its first lines are those that were read
-pub completed_front : (most n r zeros cost : ℕ) (ends ps : List ℕ) → IsMost most → r + zeros ≡ most → IsRow (r * n) ps
+pub completed_prefix : (most n r zeros cost : ℕ) (ends ps : List ℕ) → IsMost most → r + zeros ≡ most → IsRow (r * n) ps
     → take (r + 4) (lines_of most (completed n zeros ends cost ps)) ≡ head_lines most n ends cost ++ rows_of r n ps
-completed_front most n r zeros cost ends ps is parts row =
+completed_prefix most n r zeros cost ends ps is parts row =
     let c = completed n zeros ends cost ps in
     let k : r + 4 ≡ suc (suc (suc (suc r))) = omega arith in
     let within : r ≤ length (rows_of most n c.potentials) = omega (arith, length-rows_of most n c.potentials) in
     let rows : take r (rows_of most n c.potentials ++ (codes "end" ∷ []) ∷ []) ≡ rows_of r n ps =
     take-append-le r (rows_of most n c.potentials) ((codes "end" ∷ []) ∷ []) within
     ∙ take-rows_of most r n c.potentials (omega arith)
-    ∙ rows_of_front r n ps (replicate (zeros * n) 0) (omega (arith, row.len)) in
+    ∙ rows_of_prefix r n ps (replicate (zeros * n) 0) (omega (arith, row.len)) in
     ap (take (r + 4)) (completed_lines most n r zeros cost ends ps is parts row)
     ∙ rw k (ap (λ (ls : List (List (List ℕ))). head_lines most n ends cost ++ ls) rows)
 

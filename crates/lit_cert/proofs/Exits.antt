@@ -14,7 +14,7 @@ use Rattle.lit_cert.specs.Spelling.{literals_in, IsCount, HasEnds, HasTextFor, l
 use Rattle.lit_cert.specs.Reading.{IsRow, NoLine, StartsWithHead, StartsWithRows, IsFirstBadFor, IsBadRow, IsBadTextFor}
 use Rattle.lit_cert.proofs.Plain.{IsMost}
 use Rattle.lit_cert.proofs.FirstBad.{first_bad, length-lines_of}
-use Rattle.lit_cert.proofs.Completed.{completed, count_is, completed_fits, completed_front, count_of, line_of_row, line_of_end}
+use Rattle.lit_cert.proofs.Completed.{completed, count_is, completed_fits, completed_prefix, count_of, line_of_row, line_of_end}
 
 -- the ends and the price that a text without them is completed by
 abbrev some_ends : List ℕ
@@ -128,10 +128,10 @@ bad_after most n cost r ends text rest ps left is head le rows none =
     let c = completed n zeros ends cost ps in
     let fits = completed_fits most n r zeros cost ends ps is head.count head.has_ends head.small_cost (omega arith) rows.row in
     let n-is : literals_in most c ≡ n = count_of most n r zeros cost ends ps is (omega arith) rows.row in
-    let front = completed_front most n r zeros cost ends ps is (omega arith) rows.row in
+    let prefix = completed_prefix most n r zeros cost ends ps is (omega arith) rows.row in
     let number : r + 4 + 1 ≡ r + 5 = omega arith in
     subst (IsFirstBadFor most text) number (first_bad most (r + 4) text left c is fits (omega arith)
-    (lines_read most n cost r ends text rest ps left head rows ∙ ap (λ (ls : List (List (List ℕ))). flat_map line_text ls ++ left) (sym front))
+    (lines_read most n cost r ends text rest ps left head rows ∙ ap (λ (ls : List (List (List ℕ))). flat_map line_text ls ++ left) (sym prefix))
     (λ d later has same. none d later has (count_from_lines most (r + 4) n c d (omega arith) (omega arith) head.count n-is has same)))
 
 -- a row is wrong

@@ -83,11 +83,11 @@ lacks_by_test c (b ∷ w) e =
 pub plain_number : (w : List ℕ) (n : ℕ) → Lacks 10 w → n < 2 ^ 64 → All (Lacks 10) (w ∷ decimal n ∷ [])
 plain_number w n lacks small = All-cons (Lacks 10) w (decimal n ∷ []) lacks (All-cons (Lacks 10) (decimal n) [] (lacks_decimal 10 n (omega arith) small) (All-nil (Lacks 10)))
 
--- the rest of the line after a front of it
-pub after_front : (k : ℕ) (line front word : List ℕ) → pointwise eqb (take k line) front ≡ true → word ≡ drop k line → line ≡ front ++ word
-after_front k line front word same e =
-    let front_is : take k line ≡ front = (bytes_eq-Decides (take k line) front).0 same in
-    sym (take-append-drop k line) ∙ ap (λ (t : List ℕ). t ++ drop k line) front_is ∙ ap (λ (t : List ℕ). front ++ t) (sym e)
+-- the rest of the line after a prefix of it
+pub after_prefix : (k : ℕ) (line prefix word : List ℕ) → pointwise eqb (take k line) prefix ≡ true → word ≡ drop k line → line ≡ prefix ++ word
+after_prefix k line prefix word same e =
+    let prefix_is : take k line ≡ prefix = (bytes_eq-Decides (take k line) prefix).0 same in
+    sym (take-append-drop k line) ∙ ap (λ (t : List ℕ). t ++ drop k line) prefix_is ∙ ap (λ (t : List ℕ). prefix ++ t) (sym e)
 
 -- lists that compare as different are different
 pub not_same : (xs ys : List ℕ) → false ≡ pointwise eqb xs ys → xs ≢ ys

@@ -16,7 +16,7 @@ use Rattle.lit_cert.specs.Reading.{Follows, IsBadRow, IsBadText, IsFirstBad, IsF
 use Rattle.lit_cert.proofs.Plain.{IsMost, is_most}
 use Rattle.lit_cert.proofs.Exits.{bad_first, bad_row}
 use Rattle.lit_cert.proofs.OneWay.{fewer_lines, one_certificate, right_lines}
-use Rattle.lit_cert.proofs.TooLong.{IsLong, first_bad_after, none_spells, right_after, right_in_front}
+use Rattle.lit_cert.proofs.TooLong.{IsLong, first_bad_after, none_spells, right_after, right_in_prefix}
 use Rattle.lit_cert.proofs.Lengths.{length-spelling_for-le}
 
 -- the first line of a profile's texts
@@ -130,19 +130,19 @@ one_bad j k text a b =
 pub text_not_bad : (k : ℕ) (text : List ℕ) (c : CertificateParts) → HasText c → text ≡ spelling c → IsFirstBad text k → ⊥
 text_not_bad k text c has e bad = bad.wrong (c.profile, right_lines (buckets c.profile) k text (numbers_of c) has e)
 
--- lines of the front of a text that is too long for either profile are lines of all of it
-pub bad_in_front : (k : ℕ) (text front rest : List ℕ) → IsLong 16 front → text ≡ front ++ rest → IsFirstBad front k → IsFirstBad text k
-bad_in_front k text front rest long e bad =
-    let enough : (p : Profile) → IsLong (buckets p) front = long_enough front long in
+-- lines of the prefix of a text that is too long for either profile are lines of all of it
+pub bad_in_prefix : (k : ℕ) (text prefix rest : List ℕ) → IsLong 16 prefix → text ≡ prefix ++ rest → IsFirstBad prefix k → IsFirstBad text k
+bad_in_prefix k text prefix rest long e bad =
+    let enough : (p : Profile) → IsLong (buckets p) prefix = long_enough prefix long in
     record {
       from_one = bad.from_one;
-      before = (bad.before.0, rw e (right_after (buckets bad.before.0) (k - 1) front rest (is_most bad.before.0) (enough bad.before.0) bad.before.1));
-      wrong = λ right. bad.wrong (right.0, right_in_front (buckets right.0) k front rest (is_most right.0) (enough right.0) (rw e at right.1));
+      before = (bad.before.0, rw e (right_after (buckets bad.before.0) (k - 1) prefix rest (is_most bad.before.0) (enough bad.before.0) bad.before.1));
+      wrong = λ right. bad.wrong (right.0, right_in_prefix (buckets right.0) k prefix rest (is_most right.0) (enough right.0) (rw e at right.1));
     }
   where
-    long_enough : (front : List ℕ) → IsLong 16 front → (p : Profile) → IsLong (buckets p) front
-    long_enough front long Eight = omega arith
-    long_enough front long Sixteen = long
+    long_enough : (prefix : List ℕ) → IsLong 16 prefix → (p : Profile) → IsLong (buckets p) prefix
+    long_enough prefix long Eight = omega arith
+    long_enough prefix long Sixteen = long
 
 -- no text is longer
 pub text-le : (c : CertificateParts) → HasText c → length (spelling c) ≤ 200 + 16 * 86200

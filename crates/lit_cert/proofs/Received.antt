@@ -4,7 +4,7 @@ use Rattle.std.specs.Option.{IfSome}
 use Rattle.std.specs.Result.{IfOk, IfErr, OnOk}
 use Rattle.std.proofs.lemmas.List.{append_cancel_left, append-nil}
 use Rattle.std.proofs.lemmas.Result.{IfErr-at_err}
-use Rattle.byte_io.specs.Devices.{Coming, Clean, Faulty, Gives, EndsHere, Told}
+use Rattle.byte_io.specs.Devices.{Coming, Clean, Faulty, Gives, EndsHere, IfKnown}
 use Rattle.byte_io.specs.Transfers.{ReadsInto, ReadsAll}
 use Rattle.lit_cert.specs.declared.fault.Fault.{Fault}
 use Rattle.lit_cert.specs.declared.fault.Fault.TheVariants.{OutOfMemory, BadCertText, ReadFault, WriteFault}
@@ -12,7 +12,7 @@ use Rattle.lit_cert.specs.Certificates.{CertificateParts}
 use Rattle.lit_cert.specs.Faults.{IsReadersFault}
 use Rattle.lit_cert.specs.Spelling.{HasText, spelling}
 use Rattle.lit_cert.specs.Reading.{IsFirstBad, IsBadText}
-use Rattle.lit_cert.proofs.ProfileTexts.{bad_in_front, none_of_long, one_bad, one_text, text-le, text_not_bad}
+use Rattle.lit_cert.proofs.ProfileTexts.{bad_in_prefix, none_of_long, one_bad, one_text, text-le, text_not_bad}
 use Rattle.lit_cert.proofs.TooLong.{IsLong}
 
 abbrev Answer : Type 0
@@ -36,7 +36,7 @@ ends_here limit x y bytes text e gives all = record {
 }
 
 -- a certificate that was read from all bytes is theirs
-pub found_whole : (limit : ℕ) (old new : Option Coming) (before text : List ℕ) (r : Answer) → before ≡ [] → ReadsInto old new before text → IfSome old (ReadsAll limit before text) → Spells text r → Told old new (λ x y. IfOk r (λ c. HasText c × (x.text ≡ spelling c) × EndsHere y))
+pub found_whole : (limit : ℕ) (old new : Option Coming) (before text : List ℕ) (r : Answer) → before ≡ [] → ReadsInto old new before text → IfSome old (ReadsAll limit before text) → Spells text r → IfKnown old new (λ x y. IfOk r (λ c. HasText c × (x.text ≡ spelling c) × EndsHere y))
 found_whole limit None new before text r empty reads all found = tt
 found_whole limit (Some x) None before text r empty reads all found = absurd reads.given
 found_whole limit (Some x) (Some y) before text (Ok c) empty reads all found =
@@ -68,8 +68,8 @@ pub shown_whole : (Q : Coming → Type 0) (limit : ℕ) (old : Option Coming) (b
 shown_whole Q limit None before text all = tt
 shown_whole Q limit (Some x) before text all = λ faulty. absurd (all.ending faulty)
 
--- the front of too many bytes is no certificate's text
-pub found_long : (old new : Option Coming) (before text : List ℕ) (r : Answer) → IsLong 16 text → ReadsInto old new before text → Spells text r → Told old new (λ x y. IfOk r (λ c. HasText c × (x.text ≡ spelling c) × EndsHere y))
+-- the prefix of too many bytes is no certificate's text
+pub found_long : (old new : Option Coming) (before text : List ℕ) (r : Answer) → IsLong 16 text → ReadsInto old new before text → Spells text r → IfKnown old new (λ x y. IfOk r (λ c. HasText c × (x.text ≡ spelling c) × EndsHere y))
 found_long None new before text r long reads found = tt
 found_long (Some x) None before text r long reads found = absurd reads.given
 found_long (Some x) (Some y) before text (Ok c) long reads found = absurd (none_of_long text c long found.0 found.1)
@@ -87,7 +87,7 @@ bad_long (Some x) None before text r empty long reads wrong = absurd reads.given
 bad_long (Some x) (Some y) before text r empty long reads wrong =
     λ line is.
     let bytes : text ≡ reads.bytes = subst (λ (b : List ℕ). text ≡ b ++ reads.bytes) empty reads.text in
-    bad_in_front line x.text text y.text long (reads.given.text ∙ ap (λ (t : List ℕ). t ++ y.text) (sym bytes)) (bad_line_of text r line wrong is)
+    bad_in_prefix line x.text text y.text long (reads.given.text ∙ ap (λ (t : List ℕ). t ++ y.text) (sym bytes)) (bad_line_of text r line wrong is)
 
 -- and whatever would have followed them
 pub shown_long : (old new : Option Coming) (before text : List ℕ) (r : Answer) → before ≡ [] → IsLong 16 text → ReadsInto old new before text → IfErr r (IsBadText text)
@@ -99,13 +99,13 @@ shown_long (Some x) (Some y) before text r empty long reads wrong =
     let bytes : text ≡ reads.bytes = subst (λ (b : List ℕ). text ≡ b ++ reads.bytes) empty reads.text in
     let came : x.text ≡ text ++ y.text = reads.given.text ∙ ap (λ (t : List ℕ). t ++ y.text) (sym bytes) in
     let all : x.text ++ more ≡ text ++ (y.text ++ more) = ap (λ (t : List ℕ). t ++ more) came ∙ append_assoc text y.text more in
-    bad_in_front line (x.text ++ more) text (y.text ++ more) long all (bad_line_of text r line wrong is)
+    bad_in_prefix line (x.text ++ more) text (y.text ++ more) long all (bad_line_of text r line wrong is)
 
 -- ---- the promises on each text, from the promises on each answer
 
 -- the promises of a call on its answer, by the known bytes of the device before and after
 pub record Promises (old new : Option Coming) (r : Answer) : Type 0 where
-  pub found : Told old new (λ x y. IfOk r (λ c. HasText c × (x.text ≡ spelling c) × EndsHere y))
+  pub found : IfKnown old new (λ x y. IfOk r (λ c. HasText c × (x.text ≡ spelling c) × EndsHere y))
   pub bad_line : IfSome old (λ x. (line : ℕ) → r ≡ Err (BadCertText line) → IsFirstBad x.text line)
   pub clean : IfSome old (λ x. x.ending ≡ Clean → length x.text < 2 ^ 40 → r ≢ Err ReadFault)
   pub faults : IfErr r IsReadersFault

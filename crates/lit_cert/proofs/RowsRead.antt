@@ -10,8 +10,8 @@ use Rattle.lit_cert.specs.Reading.{IsRow, NoLine, StartsWithRows, IsBadLine, IsB
 use Rattle.lit_cert.proofs.Rows.{row_at, rows_of_more}
 
 -- a row does not see what stands after it
-row_at_front : (n r : ℕ) (ps xs : List ℕ) → (r + 1) * n ≤ length ps → row_at n (ps ++ xs) r ≡ row_at n ps r
-row_at_front n r ps xs within =
+row_at_prefix : (n r : ℕ) (ps xs : List ℕ) → (r + 1) * n ≤ length ps → row_at n (ps ++ xs) r ≡ row_at n ps r
+row_at_prefix n r ps xs within =
     let before : r * n ≤ length ps = grind arith in
     let room : n ≤ length (drop (r * n) ps) = simp length-drop (grind arith) in
     let dropped : drop (r * n) (ps ++ xs) ≡ drop (r * n) ps ++ xs = drop-append-le (r * n) ps xs before in
@@ -23,15 +23,15 @@ unfolding rows_of
 no_rows n ps = refl
 
 -- nor do the first rows
-pub rows_of_front : (count n : ℕ) (ps xs : List ℕ) → count * n ≤ length ps → rows_of count n (ps ++ xs) ≡ rows_of count n ps
-rows_of_front zero n ps xs within = no_rows n (ps ++ xs) ∙ sym (no_rows n ps)
-rows_of_front (suc count) n ps xs within =
+pub rows_of_prefix : (count n : ℕ) (ps xs : List ℕ) → count * n ≤ length ps → rows_of count n (ps ++ xs) ≡ rows_of count n ps
+rows_of_prefix zero n ps xs within = no_rows n (ps ++ xs) ∙ sym (no_rows n ps)
+rows_of_prefix (suc count) n ps xs within =
     let next : suc count ≡ count + 1 = omega arith in
     let room : (count + 1) * n ≤ length ps = rw (← next) within in
     let shorter : count * n ≤ length ps = grind arith in
     rw next (rows_of_more count n (ps ++ xs)
-    ∙ ap (λ (ls : List (List (List ℕ))). ls ++ row_at n (ps ++ xs) count ∷ []) (rows_of_front count n ps xs shorter)
-    ∙ ap (λ (l : List (List ℕ)). rows_of count n ps ++ l ∷ []) (row_at_front n count ps xs room)
+    ∙ ap (λ (ls : List (List (List ℕ))). ls ++ row_at n (ps ++ xs) count ∷ []) (rows_of_prefix count n ps xs shorter)
+    ∙ ap (λ (l : List (List ℕ)). rows_of count n ps ++ l ∷ []) (row_at_prefix n count ps xs room)
     ∙ sym (rows_of_more count n ps))
 
 -- one row more
@@ -39,7 +39,7 @@ pub rows_of_push : (r n : ℕ) (ps row : List ℕ) → length ps ≡ r * n → l
 rows_of_push r n ps row len width =
     let last : take n (drop (r * n) (ps ++ row)) ≡ row = ap (take n) (drop_at ps row (r * n) len) ∙ take_all n row (omega arith) in
     rows_of_more r n (ps ++ row)
-    ∙ ap (λ (ls : List (List (List ℕ))). ls ++ row_at n (ps ++ row) r ∷ []) (rows_of_front r n ps row (omega arith))
+    ∙ ap (λ (ls : List (List (List ℕ))). ls ++ row_at n (ps ++ row) r ∷ []) (rows_of_prefix r n ps row (omega arith))
     ∙ ap (λ (hs : List ℕ). rows_of r n ps ++ row_words (r + 1) hs ∷ []) last
 
 -- before the first row

@@ -28,7 +28,7 @@ pub record IsFirstBadFor (most : ℕ) (text : List ℕ) (k : ℕ) : Type 0 where
 
 -- ---- reading one line
 
--- no line of such words stands at the front of the text
+-- no line of such words stands at the start of the text
 abbrev pub NoLine : {V : Type 0} → (V → Type 0) → (V → List (List ℕ)) → List ℕ → Type 0
 NoLine {V} fits words text = (v : V) (rest : List ℕ) → fits v → text ≢ line_text (words v) ++ rest
 
@@ -50,7 +50,7 @@ pub record HasNumbers (most : ℕ) (line numbers : List ℕ) : Type 0 where
   pub small : AreNumbers numbers
   pub line_is : line ≡ join_with_byte 32 (map decimal numbers)
 
--- the lines before the rows stand at the front of the text
+-- the lines before the rows stand at the start of the text
 pub record StartsWithHead (most n cost : ℕ) (ends text rest : List ℕ) : Type 0 where
   pub count : IsCount n
   pub has_ends : HasEnds most ends
@@ -62,7 +62,7 @@ pub record IsRow (n : ℕ) (row : List ℕ) : Type 0 where
   pub len : length row ≡ n
   pub numbers : AreNumbers row
 
--- the first rows stand at the front of the text
+-- the first rows stand at the start of the text
 pub record StartsWithRows (count n : ℕ) (text potentials rest : List ℕ) : Type 0 where
   pub row : IsRow (count * n) potentials
   pub lines : text ≡ flat_map line_text (rows_of count n potentials) ++ rest

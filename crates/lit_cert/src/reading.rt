@@ -1,6 +1,6 @@
 //! Certificates read from a device.
 ghost use Rattle.std.specs.Prelude.{◌≡◌, ◌≢◌, ℕ, List, ◌+◌, ◌++◌, ◌^◌, ◌<◌, ◌≤◌, length, IsTrue, IfOk, IfErr, IfSome, OnOk};
-ghost use Rattle.byte_io.specs.Devices.{Clean, EndsHere, Faulty, Told};
+ghost use Rattle.byte_io.specs.Devices.{Clean, EndsHere, Faulty, IfKnown};
 ghost use Rattle.lit_cert.specs.Certificates.{CertificateParts};
 ghost use Rattle.lit_cert.specs.Faults.{IsReadersFault};
 ghost use Rattle.lit_cert.specs.Spelling.{HasText, spelling};
@@ -26,7 +26,7 @@ const LONGEST_TEXT: usize = 1 << 21;
 /// After each of them an unknown part of the reader was read.
 pub fn read_cert<R: ByteIn>(alloc: Global, input: &mut R) -> Result<Certificate, Fault>
     // A certificate that is read is spelled by the whole text.
-    ensures found { Told (R.coming input.old) (R.coming input.new) (λ old new.
+    ensures found { IfKnown (R.coming input.old) (R.coming input.new) (λ old new.
         IfOk result (λ c. HasText c × (old.text ≡ spelling c) × EndsHere new)) }
     ensures ending { IfSome (R.coming input.old) (λ old. OnOk result (old.ending ≢ Faulty)) }
     // The certificate that the text spells is read, unless memory runs out.
@@ -59,7 +59,7 @@ pub fn read_cert<R: ByteIn>(alloc: Global, input: &mut R) -> Result<Certificate,
 
 /// Reads at most the longest text of a certificate. Each clause says what an answer means, and none which answer comes.
 fn read_longest<R: ByteIn>(alloc: Global, input: &mut R) -> Result<Certificate, Fault>
-    ensures found { Told (R.coming input.old) (R.coming input.new) (λ old new.
+    ensures found { IfKnown (R.coming input.old) (R.coming input.new) (λ old new.
         IfOk result (λ c. HasText c × (old.text ≡ spelling c) × EndsHere new)) }
     ensures ending { IfSome (R.coming input.old) (λ old. OnOk result (old.ending ≢ Faulty)) }
     ensures bad_line { IfSome (R.coming input.old) (λ old.

@@ -2,7 +2,7 @@
 ghost use Rattle.std.specs.Prelude.{◌≡◌, ◌≢◌, ◌+◌, ◌<◌, ◌++◌, ◌∷◌, map, codes, string_bytes, IsTrue, IfOk, IfErr, OnOk, OnErr};
 ghost use Rattle.std.specs.Fmt.{decimal};
 ghost use Rattle.std.specs.Io.KnownBytes.{Appends};
-ghost use Rattle.byte_io.specs.Transfers.{AppendsPrefix};
+ghost use Rattle.byte_io.specs.Transfers.{AppendsPart};
 ghost use Rattle.lit_cert.specs.Faults.{IsWritersFault};
 ghost use Rattle.lit_cert.specs.Spelling.{IsShaped, ends_words, line_text, row_words, spelling, version_of};
 ghost use Rattle.lit_base.specs.Profiles.{buckets};
@@ -86,7 +86,7 @@ pub fn write_cert<W: ByteOut>(
     ensures ok { OnOk result
         (Appends (W.written out.old) (W.written out.new) (spelling certificate.now)) }
     ensures err { OnErr result
-        (AppendsPrefix (W.written out.old) (W.written out.new) (spelling certificate.now)) }
+        (AppendsPart (W.written out.old) (W.written out.new) (spelling certificate.now)) }
     ensures same { result ≡ Err Fault.OutOfMemory → out.new ≡ out.old }
 
     // `WriteFault` is returned only if a write failed.

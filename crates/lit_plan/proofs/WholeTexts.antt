@@ -29,7 +29,7 @@ hits_to_start l text hits b all = record {
 
 -- the hits after a position continue the hits up to there
 pub hits_continued : (l : Literals) (text : List ℕ) (from : ℕ) (hits : List (ℕ × ℕ)) → HasBounds l → from ≤ length text → AreHitsAfter l text from from hits → Continues l text from hits
-hits_continued l text from hits b within later front early =
-    let told : from ≡ 0 + (from - 0) = omega arith in
-    hits_from_start l text (front ++ hits) b
-    (hits_joined l text 0 from 0 front hits (omega arith) within (hits_to_start l (take from text) front b early) (subst (λ x. AreHitsAfter l text from x hits) told later))
+hits_continued l text from hits b within later prefix early =
+    let known : from ≡ 0 + (from - 0) = omega arith in
+    hits_from_start l text (prefix ++ hits) b
+    (hits_joined l text 0 from 0 prefix hits (omega arith) within (hits_to_start l (take from text) prefix b early) (subst (λ x. AreHitsAfter l text from x hits) known later))

@@ -24,7 +24,7 @@ pub record IsCompiled (list : Literals) (certificate : CertificateParts) (prefil
 -- the refusal of a list and a certificate: the first condition that fails, and both unchanged
 pub record IsRefusalOf (list : Literals) (certificate : CertificateParts) (fault : Fault) (old_list : Literals) (old_certificate : CertificateParts) : Type 0 where
   pub reason : Reason
-  pub told : fault ≡ NotCertified reason
+  pub fault_is : fault ≡ NotCertified reason
   pub first : IsFirstFailure list certificate reason
   pub same_list : old_list ≡ list
   pub same_certificate : old_certificate ≡ certificate

@@ -38,7 +38,7 @@ searched_of m = if names_patterns m then texts_of m (codes "operands")
     else drop 1 (texts_of m (codes "operands"))
 
 -- the options in the matches, with these pattern lists and these files to search
-pub record Tells (m : ArgMatches) (patterns searched : List (List ℕ)) (o : GrepOptions) : Type 0 where
+pub record Specifies (m : ArgMatches) (patterns searched : List (List ℕ)) (o : GrepOptions) : Type 0 where
   pub fold : o.fold ≡ (if is_used m (codes "fold") then Ascii else No)
   pub invert : o.invert ≡ is_used m (codes "invert")
   pub whole : o.whole ≡ is_used m (codes "whole")
@@ -53,7 +53,7 @@ pub record Tells (m : ArgMatches) (patterns searched : List (List ℕ)) (o : Gre
 
 -- the options in the matches
 abbrev pub IsOptionsOf : ArgMatches → GrepOptions → Type 0
-IsOptionsOf m = Tells m (lists_of m) (searched_of m)
+IsOptionsOf m = Specifies m (lists_of m) (searched_of m)
 
 -- the fault where no pattern is given: the text that is printed, or that memory ran out
 abbrev pub IsNoPattern : Fault → Type 0

@@ -1,7 +1,7 @@
 //! The options in clap's matches. POSIX.1-2017 `grep`, OPTIONS and OPERANDS.
 ghost use Rattle.std.specs.Prelude.{◌≡◌, IfErr, IfOk, OnOk, codes, if◌then◌else◌, map, string_bytes, true};
 ghost use Rattle.lit_base.specs.declared.fold.Fold.TheVariants.{Ascii, No};
-ghost use Rattle.litgrep.specs.Options.{IsNoPattern, IsOptionsOf, IsRefusalOf, Tells, gives_pattern, texts, texts_of};
+ghost use Rattle.litgrep.specs.Options.{IsNoPattern, IsOptionsOf, IsRefusalOf, Specifies, gives_pattern, texts, texts_of};
 ghost use Rattle.program_words.specs.Matches.{is_used};
 
 use clap::ArgMatches;
@@ -22,23 +22,23 @@ pub fn options_of(alloc: Global, matches: &ArgMatches<'_>) -> Result<GrepOptions
     let lists = values(matches, "lists");
     let operands = values(matches, "operands");
     if !lists.is_empty() || !values(matches, "files").is_empty() {
-        return Ok(told(alloc, matches, lists, operands)?);
+        return Ok(options_from(alloc, matches, lists, operands)?);
     }
     if operands.is_empty() {
         return Err(no_pattern(alloc));
     }
     let (leading, files) = operands.split_at(1);
-    Ok(told(alloc, matches, leading, files)?)
+    Ok(options_from(alloc, matches, leading, files)?)
 }
 
 /// The options with the given pattern lists and files to search, and all else from the matches.
-fn told(
+fn options_from(
     alloc: Global,
     matches: &ArgMatches<'_>,
     lists: &[&str],
     operands: &[&str],
 ) -> Result<GrepOptions, AllocError>
-    ensures { IfOk result (Tells matches.now (texts lists.now) (texts operands.now)) }
+    ensures { IfOk result (Specifies matches.now (texts lists.now) (texts operands.now)) }
 {
     Ok(GrepOptions {
         fold: fold_of(matches),

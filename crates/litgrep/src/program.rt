@@ -2,7 +2,7 @@
 ghost use Rattle.std.specs.Prelude.{◌≡◌, ◌≢◌, ◌||◌, OnErr, OnOk};
 ghost use Rattle.byte_io.specs.Transfers.{Says};
 ghost use Rattle.grep_run.specs.Messages.{out_of_memory};
-ghost use Rattle.grep_run.specs.Writers.{Writes, WritesFront, is_write_fault, writer};
+ghost use Rattle.grep_run.specs.Writers.{Writes, WritesPrefix, is_write_fault, writer};
 ghost use Rattle.program_words.specs.Words.{message_on};
 
 use crate::operand_files::OperandFiles;
@@ -60,10 +60,10 @@ fn refuse<E: ByteOut>(fault: &Fault, err: &mut E) -> Status
     Status::Trouble
 }
 
-/// The message on that. After an error some of it may be written, from its front.
+/// The message on that. After an error some of it may be written, from its start.
 fn say_fault<E: ByteOut>(fault: &Fault, err: &mut E) -> Result<(), Stop>
     ensures ok { OnOk result (Writes (writer E.written E.has_failed err.old) (writer E.written E.has_failed err.new) (message_on out_of_memory fault.now)) }
-    ensures err { OnErr result (WritesFront (writer E.written E.has_failed err.old) (writer E.written E.has_failed err.new) (message_on out_of_memory fault.now)) }
+    ensures err { OnErr result (WritesPrefix (writer E.written E.has_failed err.old) (writer E.written E.has_failed err.new) (message_on out_of_memory fault.now)) }
     ensures fault { OnErr result (result ≡ Err Stop.WriteFault) }
     ensures flag { E.has_failed err.new ≡ (E.has_failed err.old || is_write_fault result) }
 {

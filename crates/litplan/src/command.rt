@@ -1,6 +1,6 @@
 //! What a command does.
 ghost use Rattle.std.specs.Prelude.{◌≡◌, ◌≢◌, ◌||◌};
-ghost use Rattle.byte_io.specs.Devices.{Told};
+ghost use Rattle.byte_io.specs.Devices.{IfKnown};
 ghost use Rattle.byte_io.specs.Sources.{AreShort};
 ghost use Rattle.byte_io.specs.Transfers.{Says};
 ghost use Rattle.litplan.specs.Commands.{EndsSomehow};
@@ -23,7 +23,7 @@ pub fn serve<R: Env + Threads + Sync + AllocGlobal, F: Files, W: ByteOut, E: Byt
     out: &mut W,
     err: &mut E,
 ) -> Status
-    ensures ends { Told (F.sources files.old) (F.sources files.new) (λ s left. AreShort s
+    ensures ends { IfKnown (F.sources files.old) (F.sources files.new) (λ s left. AreShort s
         → EndsSomehow F.Output.written F.Output.has_failed s left result (W.has_failed out.old) (W.has_failed out.new) (E.has_failed err.new)
         (W.written out.old) (W.written out.new) (E.written err.old) (E.written err.new)) }
 
@@ -47,7 +47,7 @@ pub fn command<R: Threads + Sync, F: Files, W: ByteOut, E: ByteOut>(
     out: &mut W,
     err: &mut E,
 ) -> Status
-    ensures ends { Told (F.sources files.old) (F.sources files.new) (λ s left. AreShort s
+    ensures ends { IfKnown (F.sources files.old) (F.sources files.new) (λ s left. AreShort s
         → EndsSomehow F.Output.written F.Output.has_failed s left result (W.has_failed out.old) (W.has_failed out.new) (E.has_failed err.new)
         (W.written out.old) (W.written out.new) (E.written err.old) (E.written err.new)) }
 

@@ -25,7 +25,7 @@ pub fn requested(alloc: Global, words: &[String]) -> Result<Request, Fault> {
     }
 }
 
-/// The request that clap's matches of the subcommand of a name tell, each argument under its name as id.
+/// The request in clap's matches of the subcommand of a name, with each argument under its name as id.
 ///
 /// # Errors
 /// - `Usage` where there is no such command or no such number of workers, which clap lets not through; where there are more
@@ -52,7 +52,7 @@ pub fn request_of(alloc: Global, name: &str, found: &ArgMatches<'_>) -> Result<R
     }
 }
 
-/// The check that clap's matches tell: of a certificate, or of a plan of a plan file.
+/// The check in clap's matches: of a certificate, or of a plan of a plan file.
 fn check_of(alloc: Global, found: &ArgMatches<'_>) -> Result<Request, Fault>
     ensures { IfOk result (IsRequestOf (codes "check") found.now) }
 {
@@ -69,7 +69,7 @@ fn check_of(alloc: Global, found: &ArgMatches<'_>) -> Result<Request, Fault>
     }))
 }
 
-/// The plan file to be made that clap's matches tell.
+/// The plan file to be made, by clap's matches.
 fn pack_of(alloc: Global, found: &ArgMatches<'_>) -> Result<Request, Fault>
     ensures { IfOk result (IsRequestOf (codes "pack") found.now) }
 {
@@ -87,7 +87,7 @@ fn pack_of(alloc: Global, found: &ArgMatches<'_>) -> Result<Request, Fault>
     }))
 }
 
-/// What clap's matches tell to explain: a list, a plan of a plan file, or a certificate.
+/// What to explain, by clap's matches: a list, a plan of a plan file, or a certificate.
 fn explain_of(alloc: Global, found: &ArgMatches<'_>) -> Result<Request, Fault>
     ensures { IfOk result (IsRequestOf (codes "explain") found.now) }
 {

@@ -6,11 +6,11 @@ use Rattle.std.proofs.lemmas.Nat.Bits.{bit_at_or, bit_at_ones, bit_at_set_same, 
 use Rattle.lit_base.specs.declared.fold.Fold.{Fold}
 use Rattle.nib_mask.specs.declared.half.Half.{Half}
 use Rattle.nib_mask.specs.FilterSet.{capital, half_of, has_half, is_used, reaches, shares_half}
-use Rattle.nib_mask.specs.Tables.{TellsHalves, allows}
+use Rattle.nib_mask.specs.Tables.{AreHalvesOf, allows}
 
 -- the number with one bit
-pub tells-one : (value : ℕ) → value < 16 → TellsHalves (1 * 2 ^ value % 65536) (λ other. value == other)
-tells-one value small other less =
+pub sets-one : (value : ℕ) → value < 16 → AreHalvesOf (1 * 2 ^ value % 65536) (λ other. value == other)
+sets-one value small other less =
     let number = 1 * 2 ^ value % 65536 in
     elim (cases_eq other value) [
       | inl same ↦ omega (arith, ap (λ k. bit_at number k) same, bit_at_set_same w16 0 value small, bit_at_or 0 number value, bit_at-zero value) ∙ ap (λ b. cond b 1 0) (sym (eq-eqb value other (sym same)))
@@ -25,21 +25,21 @@ either false true = refl
 either false false = refl
 
 -- both numbers together have the bits of what passes one of the tests
-pub tells-either : (a b : ℕ) (f g : ℕ → Bool) → TellsHalves a f → TellsHalves b g → TellsHalves (bit_or a b) (λ value. f value || g value)
-tells-either a b f g of_a of_b value less =
+pub sets-either : (a b : ℕ) (f g : ℕ → Bool) → AreHalvesOf a f → AreHalvesOf b g → AreHalvesOf (bit_or a b) (λ value. f value || g value)
+sets-either a b f g of_a of_b value less =
     bit_at_or a b value ∙ (λ i. max (of_a value less i) (of_b value less i)) ∙ either (f value) (g value)
 
 -- a number with the bits of one test has the bits of another test with the same answers
-pub tells-same : (a : ℕ) (f g : ℕ → Bool) → ((value : ℕ) → f value ≡ g value) → TellsHalves a f → TellsHalves a g
-tells-same a f g same of_f value less = of_f value less ∙ ap (λ b. cond b 1 0) (same value)
+pub sets-same : (a : ℕ) (f g : ℕ → Bool) → ((value : ℕ) → f value ≡ g value) → AreHalvesOf a f → AreHalvesOf a g
+sets-same a f g same of_f value less = of_f value less ∙ ap (λ b. cond b 1 0) (same value)
 
 -- no bit where nothing passes
-pub tells-none : (f : ℕ → Bool) → ((value : ℕ) → f value ≡ false) → TellsHalves 0 f
-tells-none f none value less = bit_at-zero value ∙ ap (λ b. cond b 1 0) (sym (none value))
+pub sets-none : (f : ℕ → Bool) → ((value : ℕ) → f value ≡ false) → AreHalvesOf 0 f
+sets-none f none value less = bit_at-zero value ∙ ap (λ b. cond b 1 0) (sym (none value))
 
 -- all bits where everything passes
-pub tells-all : (f : ℕ → Bool) → ((value : ℕ) → f value ≡ true) → TellsHalves 65535 f
-tells-all f all value less = bit_at_ones 16 value less ∙ ap (λ b. cond b 1 0) (sym (all value))
+pub sets-all : (f : ℕ → Bool) → ((value : ℕ) → f value ≡ true) → AreHalvesOf 65535 f
+sets-all f all value less = bit_at_ones 16 value less ∙ ap (λ b. cond b 1 0) (sym (all value))
 
 module _ (fold : Fold) (position : ℕ) (half : Half) where
   -- a literal that reaches the position has the half of its byte there and the half of the byte's capital

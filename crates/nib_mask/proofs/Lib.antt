@@ -1,6 +1,6 @@
 pub mod Buckets
 pub mod Fingerprints
-pub mod FrontLemmas
+pub mod PrefixLemmas
 pub mod HalfLemmas
 pub mod LawLemmas
 pub mod PartLemmas

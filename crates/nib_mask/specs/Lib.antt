@@ -1,6 +1,6 @@
 pub mod Candidates
 pub mod FilterSet
-pub mod Fronts
+pub mod Prefixes
 pub mod Halves
 pub mod Runs
 pub mod Tables

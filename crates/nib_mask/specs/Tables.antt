@@ -21,5 +21,5 @@ unfoldable pub allows : Fold → ℕ → Half → ℕ → List (List ℕ) → Bo
 allows fold position half value run = not (is_used position run) || shares_half fold position half value run
 
 -- the bits of a number say which halves pass a test
-abbrev pub TellsHalves : ℕ → (ℕ → Bool) → Type 0
-TellsHalves halves test = (value : ℕ) → value < 16 → bit_at halves value ≡ (if test value then 1 else 0)
+abbrev pub AreHalvesOf : ℕ → (ℕ → Bool) → Type 0
+AreHalvesOf halves test = (value : ℕ) → value < 16 → bit_at halves value ≡ (if test value then 1 else 0)

@@ -3,7 +3,7 @@
 
 ghost use Rattle.std.specs.Prelude.{◌≡◌, ◌<◌, ◌==◌, true};
 ghost use Rattle.nib_mask.specs.FilterSet.{capital, has_half, reaches};
-ghost use Rattle.nib_mask.specs.Tables.{TellsHalves};
+ghost use Rattle.nib_mask.specs.Tables.{AreHalvesOf};
 
 use crate::half::{Half, half_of};
 use lit_base::Fold;
@@ -30,7 +30,7 @@ pub fn reaches(position: usize, literal: &[u8]) -> bool
 pub fn halves_at(fold: Fold, position: usize, half: Half, literal: &[u8]) -> u16
     requires position { position < 3 }
     requires reached { reaches position literal.now ≡ true }
-    ensures { TellsHalves result (λ value. has_half fold position half value literal.now) }
+    ensures { AreHalvesOf result (λ value. has_half fold position half value literal.now) }
 {
     let byte = literal[literal.len() + position - 3];
     bit_of(half_of(half, byte)) | bit_of(half_of(half, capital(fold, byte)))
@@ -39,7 +39,7 @@ pub fn halves_at(fold: Fold, position: usize, half: Half, literal: &[u8]) -> u16
 /// The number whose only bit stands for a half.
 fn bit_of(value: u8) -> u16
     requires { value < 16 }
-    ensures { TellsHalves result (λ other. value == other) }
+    ensures { AreHalvesOf result (λ other. value == other) }
 {
     1 << value
 }

@@ -7,9 +7,9 @@
 mod byte_masks;
 mod candidates;
 mod fingerprint;
-mod fronts;
 mod half;
 mod masks;
+mod prefixes;
 
 pub use byte_masks::ByteMasks;
 pub use candidates::candidate_law;

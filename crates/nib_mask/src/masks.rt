@@ -4,7 +4,7 @@ ghost use Rattle.std.specs.Prelude.{◌≡◌, ℕ, ◌+◌, ◌*◌, ◌<◌, �
 ghost use Rattle.std.specs.Int.{bit_at};
 ghost use Rattle.lit_base.specs.Cuts.{CutsFrom, IsCut};
 ghost use Rattle.nib_mask.specs.Runs.{runs_mask};
-ghost use Rattle.nib_mask.specs.Tables.{TellsHalves, allows, value_at, table_value};
+ghost use Rattle.nib_mask.specs.Tables.{AreHalvesOf, allows, value_at, table_value};
 ghost use Rattle.nib_mask.specs.Candidates.{Covers, GivesFilterSets};
 
 use crate::fingerprint::{halves_at, reaches};
@@ -91,7 +91,7 @@ fn entry(kept: u16, value: usize, later: u16) -> u16
 fn kept_halves(list: &LitList, start: usize, end: usize, position: usize, half: Half) -> u16
     requires within { end ≤ length list.now.texts }
     requires position { position < 3 }
-    ensures { TellsHalves result (λ value. allows list.now.folding position half value (slice_range list.now.texts start end)) }
+    ensures { AreHalvesOf result (λ value. allows list.now.folding position half value (slice_range list.now.texts start end)) }
 {
     let fold = list.fold();
     let mut halves = 0;

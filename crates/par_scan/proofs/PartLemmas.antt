@@ -1,4 +1,4 @@
--- Hits of a text's front, and texts in which nothing ends.
+-- Hits of a text's prefix, and texts in which nothing ends.
 use Rattle.std.proofs.Common.{◌≡◌, ℕ, ◌<◌, List, [], ◌∷◌, length, take, drop, Result, Err, refl, sym, ap, ◌∙◌, subst, arith, true≢false}
 use Rattle.std.specs.Prelude.{IsOk, is_ok}
 use Rattle.std.specs.List.Sorted.{IsStrictlySortedBy}
@@ -7,12 +7,12 @@ use Rattle.std.proofs.lemmas.Option.{slice_get_within, get_or_from_slice_get}
 use Rattle.lit_base.specs.Literals.{IsNormal, Literals}
 use Rattle.lit_base.specs.Occurrences.{IsHits, Occurs}
 use Rattle.lit_base.specs.NextEnds.{NoEndAfter}
-use Rattle.text_ends.proofs.Occurring.{occurs_of_front}
+use Rattle.text_ends.proofs.Occurring.{occurs_of_prefix}
 
--- where nothing ends in a text, nothing ends in its front
-pub none_in_front : (l : Literals) (text : List ℕ) (m : ℕ) → NoEndAfter l text 0 → NoEndAfter l (take m text) 0
-none_in_front l text m none = λ end after here.
-    none end after (here.0, subst (λ t. Occurs l t here.0 end) (take-append-drop m text) (occurs_of_front l (take m text) (drop m text) here.0 end here.1))
+-- where nothing ends in a text, nothing ends in its prefix
+pub none_in_prefix : (l : Literals) (text : List ℕ) (m : ℕ) → NoEndAfter l text 0 → NoEndAfter l (take m text) 0
+none_in_prefix l text m none = λ end after here.
+    none end after (here.0, subst (λ t. Occurs l t here.0 end) (take-append-drop m text) (occurs_of_prefix l (take m text) (drop m text) here.0 end here.1))
 
 -- no literal ends at a text's start, as none is null
 ends_later : (l : Literals) (text : List ℕ) (place end : ℕ) → IsNormal l → Occurs l text place end → 0 < end
@@ -21,7 +21,7 @@ ends_later l text place end normal o =
     subst (λ t. 0 < length t) (get_or_from_slice_get l.texts place o.literal o.literal o.stands) (normal.nonempty place o.literal (slice_get_within l.texts place o.literal o.stands)) in
     omega (arith, some, o.begins)
 
--- an empty front has no hits
+-- an empty prefix has no hits
 pub hits_of_nothing : (l : Literals) (text : List ℕ) → IsNormal l → IsHits l (take 0 text) []
 unfolding IsStrictlySortedBy
 hits_of_nothing l text normal = record {

@@ -42,7 +42,7 @@ pub fn scan_parts<R: Threads + Sync, G: Gate>(
         return scan_part(alloc, gate, compiled, text, 0, 1);
     }
     let from = text.len() - last_part(text.len(), workers);
-    let (front, _) = text.split_at(from);
+    let (prefix, _) = text.split_at(from);
     let (last, before) = join(
         rt,
         || -> Result<Vec<Hit>, Fault>
@@ -53,10 +53,10 @@ pub fn scan_parts<R: Threads + Sync, G: Gate>(
         { scan_part(alloc, gate, compiled, text, from, workers) },
         || -> Result<Vec<Hit>, Fault>
             requires { IsSync R.row × (1 < workers) × (workers ≤ 16) }
-            ensures ok { IfOk result (λ hits. IsHits compiled.entry.now.literals front.entry.now hits.items) }
+            ensures ok { IfOk result (λ hits. IsHits compiled.entry.now.literals prefix.entry.now hits.items) }
             ensures refused { IsOkUnless result OutOfMemory }
-            ensures quiet { NoEndAfter compiled.entry.now.literals front.entry.now 0 → IsOk result }
-        { scan_parts(rt, alloc, gate, compiled, front, workers - 1) },
+            ensures quiet { NoEndAfter compiled.entry.now.literals prefix.entry.now 0 → IsOk result }
+        { scan_parts(rt, alloc, gate, compiled, prefix, workers - 1) },
     );
     let mut hits = before?;
     let mut more = last?;

@@ -5,7 +5,7 @@ use Rattle.std.specs.Result.{OnErr}
 use Rattle.std.specs.Io.KnownBytes.{Appends}
 use Rattle.std.proofs.lemmas.List.{append-nil, length-append}
 use Rattle.byte_io.specs.Devices.{Coming, Clean, Faulty}
-use Rattle.byte_io.specs.Transfers.{AppendsPrefix, FaultFollows, ReadsAll}
+use Rattle.byte_io.specs.Transfers.{AppendsPart, FaultFollows, ReadsAll}
 use Rattle.lit_plan.specs.Plans.{Plan}
 use Rattle.plan_file.specs.declared.version.Version.{Version}
 use Rattle.plan_file.specs.Spelling.{head_text, spelling, plan_text}
@@ -16,13 +16,13 @@ pub length-head_text : (version : Version) (count : ℕ) → length (head_text v
 unfolding head_text
 length-head_text version count = refl
 
--- nothing written is a front of a file
+-- nothing written is a prefix of a file
 nothing_written : (written : Option (List ℕ)) → Appends written written []
 nothing_written None = tt
 nothing_written (Some text) = sym (append-nil text)
 
--- nothing written is a front of a file, whatever refused
-pub none_written : {T E : Type 0} (version : Version) (r : Result T E) (written : Option (List ℕ)) (plans : List Plan) → OnErr r (AppendsPrefix written written (spelling version plans))
+-- nothing written is a prefix of a file, whatever refused
+pub none_written : {T E : Type 0} (version : Version) (r : Result T E) (written : Option (List ℕ)) (plans : List Plan) → OnErr r (AppendsPart written written (spelling version plans))
 none_written version (Ok x) written plans = tt
 none_written version (Err e) written plans = record {
   count = 0;

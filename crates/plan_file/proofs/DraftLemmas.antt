@@ -20,7 +20,7 @@ use Rattle.plan_file.specs.declared.version.Version.{Version}
 use Rattle.plan_file.specs.FirstBad.{Field, FitsCertificate, FitsHead, FitsList, FitsLiteral, FitsStart, IsFirstBad, Start, certificate_fields, head_fields, literal_fields, start_fields, text_of}
 use Rattle.plan_file.specs.FirstFaults.{IsFirstFault, IsWrong, IsWrongEntry, IsWrongInCertificate, IsWrongInLiterals, IsWrongLiteral, IsWrongNext}
 use Rattle.plan_file.specs.Reading.{folded_len}
-use Rattle.plan_file.specs.Spelling.{BeginsDraft, CanTell, IsDraft, flags_of, IsPlan, certificate_text, head_text, limit_of, literal_text, literals_text, plan_text, spelling}
+use Rattle.plan_file.specs.Spelling.{BeginsDraft, CanExpress, IsDraft, flags_of, IsPlan, certificate_text, head_text, limit_of, literal_text, literals_text, plan_text, spelling}
 use Rattle.plan_file.proofs.EntryParts.{certificate_fields_text, fits_certificate, fits_list}
 use Rattle.plan_file.proofs.OneWay.{head_fields_text}
 use Rattle.plan_file.proofs.PartLemmas.{text_of-append}
@@ -28,12 +28,12 @@ use Rattle.plan_file.proofs.Parts.{all_zeros, eight_can, length-zeros, some_buck
 
 -- bytes up to a fault, with which something begins that P holds of
 pub record Begun (P : List ℕ → Type 0) (bytes : List ℕ) (w : Wrong) : Type 0 where
-  pub front : List ℕ
+  pub prefix : List ℕ
   pub rest : List ℕ
-  pub bytes_are : bytes ≡ front ++ rest
+  pub bytes_are : bytes ≡ prefix ++ rest
   pub left_is : length rest ≡ w.left
   pub more : List ℕ
-  pub whole : P (front ++ more)
+  pub whole : P (prefix ++ more)
 
 -- ---- parts
 
@@ -44,7 +44,7 @@ IsPart {Part} fits fields_of text = (part : Part) × fits part × (text ≡ text
 -- a part begins before its first bad field
 part_begun : {Part : Type 0} (fits : Part → Type 0) (fields_of : Part → List Field) (bytes : List ℕ) (w : Wrong) → IsFirstBad fits fields_of bytes w → Begun (IsPart fits fields_of) bytes w
 part_begun fits fields_of bytes w bad = record {
-  front = text_of bad.before;
+  prefix = text_of bad.before;
   rest = bad.rest;
   bytes_are = bad.bytes_are;
   left_is = ap (λ (v : Wrong). v.left) (sym bad.wrong_is);
@@ -62,22 +62,22 @@ IsText t = (1 ≤ length t) × (length t ≤ MAX_LITERAL_LEN)
 abbrev IsLiteral : List ℕ → Type 0
 IsLiteral text = (t : List ℕ) × IsText t × (text ≡ literal_text t)
 
--- nothing is the front of a literal
+-- nothing is the prefix of a literal
 none_begun : (bytes : List ℕ) (w : Wrong) → w.left ≡ length bytes → Begun IsLiteral bytes w
-none_begun bytes w left = record { front = []; rest = bytes; bytes_are = refl; left_is = sym left; more = literal_text (0 ∷ []); whole = (0 ∷ [], (omega arith, omega arith), refl) }
+none_begun bytes w left = record { prefix = []; rest = bytes; bytes_are = refl; left_is = sym left; more = literal_text (0 ∷ []); whole = (0 ∷ [], (omega arith, omega arith), refl) }
 
 literal_begun : (fold : Fold) (room : ℕ) (before bytes : List ℕ) (w : Wrong) → IsWrongLiteral fold room before bytes w → Begun IsLiteral bytes w
 literal_begun fold room before bytes w (inl bad) =
     let b = part_begun (FitsLiteral room) literal_fields bytes w bad in
     let text = b.whole.0 in
-    record { front = b.front; rest = b.rest; bytes_are = b.bytes_are; left_is = b.left_is; more = b.more; whole = (text, (b.whole.1.some, b.whole.1.short), b.whole.2 ∙ ap (λ (t : List ℕ). to_be_bytes w16 (length text) ++ t) (append-nil text)) }
+    record { prefix = b.prefix; rest = b.rest; bytes_are = b.bytes_are; left_is = b.left_is; more = b.more; whole = (text, (b.whole.1.some, b.whole.1.short), b.whole.2 ∙ ap (λ (t : List ℕ). to_be_bytes w16 (length text) ++ t) (append-nil text)) }
 literal_begun fold room before bytes w (inr (inl full)) = none_begun bytes w (ap (λ (v : Wrong). v.left) full.1)
 literal_begun fold room before bytes w (inr (inr (inl u))) =
     let k = folded_len fold u.text in
     let len = to_be_bytes w16 (length u.text) in
     let split : u.text ≡ take k u.text ++ drop k u.text = sym (take-append-drop k u.text) in
     record {
-      front = len ++ take k u.text;
+      prefix = len ++ take k u.text;
       rest = drop k u.text ++ u.rest;
       bytes_are = u.bytes_are ∙ append_assoc len u.text u.rest ∙ ap (λ (t : List ℕ). len ++ (t ++ u.rest)) split ∙ ap (λ (t : List ℕ). len ++ t) (append_assoc (take k u.text) (drop k u.text) u.rest) ∙ sym (append_assoc len (take k u.text) (drop k u.text ++ u.rest));
       left_is = ap (λ (v : Wrong). v.left) (sym u.wrong_is);
@@ -122,7 +122,7 @@ IsEntry version text = (p : Plan) × IsDraft version p × (text ≡ plan_text p)
 draft_of : Fold → Profile → List (List ℕ) → Plan
 draft_of fold profile texts = record { literals = record { folding = fold; texts = texts }; certificate = record { profile = profile; ends = 0 ∷ []; cost = 0; potentials = zeros (buckets profile * length texts) } }
 
-draft_is : (version : Version) (fold : Fold) (profile : Profile) (texts : List (List ℕ)) → CanTell version profile → 1 ≤ length texts → length texts ≤ limit_of version → AllByRecursion IsText texts → IsDraft version (draft_of fold profile texts)
+draft_is : (version : Version) (fold : Fold) (profile : Profile) (texts : List (List ℕ)) → CanExpress version profile → 1 ≤ length texts → length texts ≤ limit_of version → AllByRecursion IsText texts → IsDraft version (draft_of fold profile texts)
 unfolding draft_of
 draft_is version fold profile texts can some few all = record {
   texts = All-from_recursion IsText texts all;
@@ -156,12 +156,12 @@ start_begun version bytes w bad =
     let later = flat_map literal_text texts ++ certificate_text p.certificate in
     let fits = b.whole.1 in
     record {
-      front = b.front;
+      prefix = b.prefix;
       rest = b.rest;
       bytes_are = b.bytes_are;
       left_is = b.left_is;
       more = b.more ++ later;
-      whole = (p, draft_is version s.fold s.profile texts fits.profile (omega (arith, len, fits.some)) (omega (arith, len, fits.few)) (all_some_texts s.count), sym (append_assoc b.front b.more later) ∙ ap (λ (t : List ℕ). t ++ later) b.whole.2 ∙ sym (entry_from s texts len));
+      whole = (p, draft_is version s.fold s.profile texts fits.profile (omega (arith, len, fits.some)) (omega (arith, len, fits.few)) (all_some_texts s.count), sym (append_assoc b.prefix b.more later) ∙ ap (λ (t : List ℕ). t ++ later) b.whole.2 ∙ sym (entry_from s texts len));
     }
 
 -- a wrong literal
@@ -182,12 +182,12 @@ in_literals_begun version bytes w i =
     let literals : flat_map literal_text texts ++ certificate ≡ before ++ (literal_text text ++ later) =
     ap (λ (t : List ℕ). t ++ certificate) (flat_map-append literal_text i.texts (text ∷ some_texts k)) ∙ append_assoc before (flat_map literal_text (text ∷ some_texts k)) certificate
     ∙ ap (λ (t : List ℕ). before ++ t) (append_assoc (literal_text text) (flat_map literal_text (some_texts k)) certificate) in
-    let here : (start ++ (before ++ b.front)) ++ (b.more ++ later) ≡ start ++ (before ++ (literal_text text ++ later)) =
-    append_assoc start (before ++ b.front) (b.more ++ later) ∙ ap (λ (t : List ℕ). start ++ t) (append_assoc before b.front (b.more ++ later) ∙ ap (λ (t : List ℕ). before ++ t) (sym (append_assoc b.front b.more later) ∙ ap (λ (t : List ℕ). t ++ later) b.whole.2)) in
+    let here : (start ++ (before ++ b.prefix)) ++ (b.more ++ later) ≡ start ++ (before ++ (literal_text text ++ later)) =
+    append_assoc start (before ++ b.prefix) (b.more ++ later) ∙ ap (λ (t : List ℕ). start ++ t) (append_assoc before b.prefix (b.more ++ later) ∙ ap (λ (t : List ℕ). before ++ t) (sym (append_assoc b.prefix b.more later) ∙ ap (λ (t : List ℕ). t ++ later) b.whole.2)) in
     record {
-      front = start ++ (before ++ b.front);
+      prefix = start ++ (before ++ b.prefix);
       rest = b.rest;
-      bytes_are = i.bytes_are ∙ ap (λ (t : List ℕ). start ++ (before ++ t)) b.bytes_are ∙ ap (λ (t : List ℕ). start ++ t) (sym (append_assoc before b.front b.rest)) ∙ sym (append_assoc start (before ++ b.front) b.rest);
+      bytes_are = i.bytes_are ∙ ap (λ (t : List ℕ). start ++ (before ++ t)) b.bytes_are ∙ ap (λ (t : List ℕ). start ++ t) (sym (append_assoc before b.prefix b.rest)) ∙ sym (append_assoc start (before ++ b.prefix) b.rest);
       left_is = b.left_is;
       more = b.more ++ later;
       whole = (p, draft_is version s.fold s.profile texts i.fits.profile (omega (arith, len, i.fits.some)) (omega (arith, len, i.fits.few)) all, here ∙ ap (λ (t : List ℕ). start ++ t) (sym literals) ∙ sym (entry_from s texts len));
@@ -199,7 +199,7 @@ fitting_draft version profile l c fl fc = record {
   texts = All-from_recursion IsText l.texts (texts_of_normal l fl.normal);
   some = fl.some;
   few = fl.few;
-  profile = subst (CanTell version) (sym fc.profile_is) fl.can;
+  profile = subst (CanExpress version) (sym fc.profile_is) fl.can;
   some_ends = fc.some_ends;
   few_ends = subst (λ (q : Profile). length c.ends ≤ buckets q) (sym fc.profile_is) fc.few_ends;
   small_ends = fc.small_ends;
@@ -217,12 +217,12 @@ in_certificate_begun version bytes w i =
     let literals = literals_text i.profile i.literals in
     let p : Plan = record { literals = i.literals; certificate = c } in
     record {
-      front = literals ++ b.front;
+      prefix = literals ++ b.prefix;
       rest = b.rest;
-      bytes_are = i.bytes_are ∙ ap (λ (t : List ℕ). literals ++ t) b.bytes_are ∙ sym (append_assoc literals b.front b.rest);
+      bytes_are = i.bytes_are ∙ ap (λ (t : List ℕ). literals ++ t) b.bytes_are ∙ sym (append_assoc literals b.prefix b.rest);
       left_is = b.left_is;
       more = b.more;
-      whole = (p, fitting_draft version i.profile i.literals c i.fits b.whole.1, append_assoc literals b.front b.more ∙ ap (λ (t : List ℕ). literals ++ t) (b.whole.2 ∙ certificate_fields_text c) ∙ ap (λ (q : Profile). literals_text q i.literals ++ certificate_text c) (sym b.whole.1.profile_is));
+      whole = (p, fitting_draft version i.profile i.literals c i.fits b.whole.1, append_assoc literals b.prefix b.more ∙ ap (λ (t : List ℕ). literals ++ t) (b.whole.2 ∙ certificate_fields_text c) ∙ ap (λ (q : Profile). literals_text q i.literals ++ certificate_text c) (sym b.whole.1.profile_is));
     }
 
 entry_begun : (version : Version) (bytes : List ℕ) (w : Wrong) → IsWrongEntry version bytes w → Begun (IsEntry version) bytes w
@@ -230,7 +230,7 @@ entry_begun version bytes w (inl (inl bad)) = start_begun version bytes w bad
 entry_begun version bytes w (inl (inr i)) = in_literals_begun version bytes w i
 entry_begun version bytes w (inr (inl i)) = in_certificate_begun version bytes w i
 entry_begun version bytes w (inr (inr f)) =
-    record { front = []; rest = bytes; bytes_are = refl; left_is = ap (λ (v : Wrong). v.left) (sym f.wrong_is); more = plan_text f.plan; whole = (f.plan, fitting_draft version f.plan.certificate.profile f.plan.literals f.plan.certificate (fits_list version f.plan f.has) (fits_certificate version f.plan f.has), refl) }
+    record { prefix = []; rest = bytes; bytes_are = refl; left_is = ap (λ (v : Wrong). v.left) (sym f.wrong_is); more = plan_text f.plan; whole = (f.plan, fitting_draft version f.plan.certificate.profile f.plan.literals f.plan.certificate (fits_list version f.plan f.has) (fits_certificate version f.plan f.has), refl) }
 
 -- ---- files
 
@@ -254,17 +254,17 @@ all_some_drafts version zero = tt
 all_some_drafts version (suc n) = (draft_is version No Eight ((0 ∷ []) ∷ []) (eight_can version) (omega arith) (some_limit version) ((omega arith, omega arith), tt), all_some_drafts version n)
 
 next_begun : (version : Version) (missing : ℕ) (rest : List ℕ) (w : Wrong) → IsWrongNext version missing rest w → Begun (AreDrafts version missing) rest w
-next_begun version zero rest w wrong = record { front = []; rest = rest; bytes_are = refl; left_is = ap (λ (v : Wrong). v.left) (sym wrong.1); more = []; whole = ([], refl, tt, refl) }
+next_begun version zero rest w wrong = record { prefix = []; rest = rest; bytes_are = refl; left_is = ap (λ (v : Wrong). v.left) (sym wrong.1); more = []; whole = ([], refl, tt, refl) }
 next_begun version (suc missing) rest w wrong =
     let b = entry_begun version rest w wrong in
     let others = some_drafts missing in
     record {
-      front = b.front;
+      prefix = b.prefix;
       rest = b.rest;
       bytes_are = b.bytes_are;
       left_is = b.left_is;
       more = b.more ++ flat_map plan_text others;
-      whole = (b.whole.0 ∷ others, omega (arith, length-some_drafts missing), (b.whole.1, all_some_drafts version missing), sym (append_assoc b.front b.more (flat_map plan_text others)) ∙ ap (λ (t : List ℕ). t ++ flat_map plan_text others) b.whole.2);
+      whole = (b.whole.0 ∷ others, omega (arith, length-some_drafts missing), (b.whole.1, all_some_drafts version missing), sym (append_assoc b.prefix b.more (flat_map plan_text others)) ∙ ap (λ (t : List ℕ). t ++ flat_map plan_text others) b.whole.2);
     }
 
 -- a right plan is a draft
@@ -280,10 +280,10 @@ abbrev IsDraftFile : List ℕ → Type 0
 IsDraftFile text = (version : Version) × (ps : List Plan) × (length ps ≤ 64) × AllByRecursion (IsDraft version) ps × (text ≡ spelling version ps)
 
 -- a head, and as many entries as it says
-headed : (version : Version) (count : ℕ) (front more : List ℕ) → count ≤ 64 → AreDrafts version count (front ++ more) → IsDraftFile ((head_text version count ++ front) ++ more)
-headed version count front more few d =
+headed : (version : Version) (count : ℕ) (prefix more : List ℕ) → count ≤ 64 → AreDrafts version count (prefix ++ more) → IsDraftFile ((head_text version count ++ prefix) ++ more)
+headed version count prefix more few d =
     let ps = d.0 in
-    (version, ps, omega (arith, d.1, few), d.2, append_assoc (head_text version count) front more ∙ ap (λ (t : List ℕ). head_text version count ++ t) d.3 ∙ ap (λ (n : ℕ). head_text version n ++ flat_map plan_text ps) (sym d.1))
+    (version, ps, omega (arith, d.1, few), d.2, append_assoc (head_text version count) prefix more ∙ ap (λ (t : List ℕ). head_text version count ++ t) d.3 ∙ ap (λ (n : ℕ). head_text version n ++ flat_map plan_text ps) (sym d.1))
 
 wrong_begun : (text : List ℕ) (w : Wrong) → IsWrong text w → Begun IsDraftFile text w
 wrong_begun text w (inl bad) =
@@ -293,28 +293,28 @@ wrong_begun text w (inl bad) =
     let others = flat_map plan_text (some_drafts count) in
     let drafts : AreDrafts version count ([] ++ others) = (some_drafts count, length-some_drafts count, all_some_drafts version count, refl) in
     let file = headed version count [] others b.whole.1 drafts in
-    let same : b.front ++ (b.more ++ others) ≡ (head_text version count ++ []) ++ others =
-    sym (append_assoc b.front b.more others) ∙ ap (λ (t : List ℕ). t ++ others) (b.whole.2 ∙ sym (head_fields_text (version, count) [] ∙ append-nil (text_of (head_fields (version, count))))) in
-    record { front = b.front; rest = b.rest; bytes_are = b.bytes_are; left_is = b.left_is; more = b.more ++ others; whole = subst IsDraftFile (sym same) file }
+    let same : b.prefix ++ (b.more ++ others) ≡ (head_text version count ++ []) ++ others =
+    sym (append_assoc b.prefix b.more others) ∙ ap (λ (t : List ℕ). t ++ others) (b.whole.2 ∙ sym (head_fields_text (version, count) [] ∙ append-nil (text_of (head_fields (version, count))))) in
+    record { prefix = b.prefix; rest = b.rest; bytes_are = b.bytes_are; left_is = b.left_is; more = b.more ++ others; whole = subst IsDraftFile (sym same) file }
 wrong_begun text w (inr h) =
     let head = head_text h.version h.count in
     let after = h.wrong in
     let plans = flat_map plan_text after.plans in
     let b = next_begun h.version (h.count - length after.plans) after.rest w after.wrong in
     let all = after.plans ++ b.whole.0 in
-    let drafts : AreDrafts h.version h.count ((plans ++ b.front) ++ b.more) = (
+    let drafts : AreDrafts h.version h.count ((plans ++ b.prefix) ++ b.more) = (
       all,
       omega (arith, length-append after.plans b.whole.0, b.whole.1, after.within),
       right_drafts h.version after.plans b.whole.0 (recursion_from_All (IsPlan h.version) after.plans after.each) b.whole.2,
-      append_assoc plans b.front b.more ∙ ap (λ (t : List ℕ). plans ++ t) b.whole.3 ∙ sym (flat_map-append plan_text after.plans b.whole.0),
+      append_assoc plans b.prefix b.more ∙ ap (λ (t : List ℕ). plans ++ t) b.whole.3 ∙ sym (flat_map-append plan_text after.plans b.whole.0),
     ) in
     record {
-      front = head ++ (plans ++ b.front);
+      prefix = head ++ (plans ++ b.prefix);
       rest = b.rest;
-      bytes_are = h.text_is ∙ ap (λ (t : List ℕ). head ++ t) (after.text_is ∙ ap (λ (t : List ℕ). plans ++ t) b.bytes_are ∙ sym (append_assoc plans b.front b.rest)) ∙ sym (append_assoc head (plans ++ b.front) b.rest);
+      bytes_are = h.text_is ∙ ap (λ (t : List ℕ). head ++ t) (after.text_is ∙ ap (λ (t : List ℕ). plans ++ t) b.bytes_are ∙ sym (append_assoc plans b.prefix b.rest)) ∙ sym (append_assoc head (plans ++ b.prefix) b.rest);
       left_is = b.left_is;
       more = b.more;
-      whole = headed h.version h.count (plans ++ b.front) b.more h.few drafts;
+      whole = headed h.version h.count (plans ++ b.prefix) b.more h.few drafts;
     }
 
 -- the bytes before the first fault begin a file of drafts
@@ -322,13 +322,13 @@ pub first_begun : (text : List ℕ) (place : ℕ) (cause : Cause) → IsFirstFau
 first_begun text place cause first =
     let w : Wrong = record { left = length text - place; cause = cause } in
     let b = wrong_begun text w first.wrong in
-    let len : length b.front ≡ place = omega (arith, ap length b.bytes_are, length-append b.front b.rest, b.left_is, first.within) in
-    let front : take place text ≡ b.front = ap (take place) b.bytes_are ∙ take_at b.front b.rest place len in
+    let len : length b.prefix ≡ place = omega (arith, ap length b.bytes_are, length-append b.prefix b.rest, b.left_is, first.within) in
+    let prefix : take place text ≡ b.prefix = ap (take place) b.bytes_are ∙ take_at b.prefix b.rest place len in
     record {
       version = b.whole.0;
       plans = b.whole.1;
       few = b.whole.2;
       each = All-from_recursion (IsDraft b.whole.0) b.whole.1 b.whole.3;
       more = b.more;
-      spelled = ap (λ (t : List ℕ). t ++ b.more) front ∙ b.whole.4;
+      spelled = ap (λ (t : List ℕ). t ++ b.more) prefix ∙ b.whole.4;
     }

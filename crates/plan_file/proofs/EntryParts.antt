@@ -96,7 +96,7 @@ entry_text p rest = append_assoc (literals_text p.certificate.profile p.literals
 abbrev Listed : Type 0
 Listed = (Profile × Literals) × List ℕ
 
--- two lists at the front of one text are one
+-- two lists at the start of one text are one
 one_listed : (version : Version) (profile other : Profile) (l k : Literals) (s t : List ℕ) → FitsList version profile l → FitsList version other k → literals_text profile l ++ s ≡ literals_text other k ++ t → ◌≡◌ {A = Listed} ((profile, l), s) ((other, k), t)
 one_listed version profile other l k s t fl fk e =
     one_value (list_again version profile l s fl.normal fl.some fl.few fl.can) (ap (list_at version) e ∙ list_again version other k t fk.normal fk.some fk.few fk.can)
@@ -124,7 +124,7 @@ none_in_list version bytes p rest w has e wrong = none_list version bytes p.cert
 
 -- ---- entries
 
--- two entries at the front of one text are one
+-- two entries at the start of one text are one
 pub one_plan : (version : Version) (p q : Plan) (s t : List ℕ) → HasFields version p → HasFields version q → plan_text p ++ s ≡ plan_text q ++ t → ◌≡◌ {A = Plan × List ℕ} (p, s) (q, t)
 one_plan version p q s t has also e = one_value (plan_again version p s has) (ap (plan_at version) e ∙ plan_again version q t also)
 
@@ -202,15 +202,15 @@ most_bytes = 1581100
 pub longer_entry : (version : Version) (bytes tail : List ℕ) (w : Wrong) → Whole most_bytes bytes w → IsWrongEntry version bytes w → IsWrongEntry version (bytes ++ tail) (shift (length tail) w)
 longer_entry version bytes tail w whole (inl wrong) = inl (longer_list version bytes tail w (whole_fewer list_bytes most_bytes bytes w (omega arith) whole) wrong)
 longer_entry version bytes tail w whole (inr (inl i)) =
-    let front = literals_text i.profile i.literals in
+    let prefix = literals_text i.profile i.literals in
     let n = length i.literals.texts in
-    let enough : most_bytes ≤ length bytes → certificate_bytes ≤ length i.rest = λ le. omega (arith, le, ap length i.bytes_are, length-append front i.rest, literals_len version i.profile i.literals i.fits) in
+    let enough : most_bytes ≤ length bytes → certificate_bytes ≤ length i.rest = λ le. omega (arith, le, ap length i.bytes_are, length-append prefix i.rest, literals_len version i.profile i.literals i.fits) in
     inr (inl (record {
       profile = i.profile;
       literals = i.literals;
       fits = i.fits;
       rest = i.rest ++ tail;
-      bytes_are = ap (λ (t : List ℕ). t ++ tail) i.bytes_are ∙ append_assoc front i.rest tail;
+      bytes_are = ap (λ (t : List ℕ). t ++ tail) i.bytes_are ∙ append_assoc prefix i.rest tail;
       wrong = longer_bad (FitsCertificate i.profile n) certificate_fields (certificate_steady i.profile n) certificate_bytes (certificate_few i.profile n (omega (arith, i.fits.few, limit_few version))) i.rest tail w
           (whole_rest most_bytes certificate_bytes bytes i.rest w enough whole) i.wrong;
     }))

@@ -102,8 +102,8 @@ byte_below bytes are i =
 -- a field that was taken of bytes is made of bytes
 field_bytes : (text rest : List ℕ) {bytes : List ℕ} → Took bytes text rest → AreBytes bytes → AreBytes text
 field_bytes text rest {bytes} took are =
-    let front : take (length text) bytes ≡ text = ap (take (length text)) took ∙ take_at text rest (length text) refl in
-    All-same (λ b. b < 256) text (take (length text) bytes) (sym front) (All-take (λ b. b < 256) (length text) bytes are)
+    let prefix : take (length text) bytes ≡ text = ap (take (length text)) took ∙ take_at text rest (length text) refl in
+    All-same (λ b. b < 256) text (take (length text) bytes) (sym prefix) (All-take (λ b. b < 256) (length text) bytes are)
 
 -- what is left of bytes is made of bytes
 pub rest_bytes : (text rest : List ℕ) {bytes : List ℕ} → Took bytes text rest → AreBytes bytes → AreBytes rest
@@ -113,7 +113,7 @@ rest_bytes text rest {bytes} took are =
 
 -- ---- fields of a fixed size
 
--- the field of n bytes at the front, as the value of its bytes
+-- the field of n bytes at the start, as the value of its bytes
 abbrev sized : {A : Type 0} → ℕ → (List ℕ → A) → List ℕ → Result (A × List ℕ) Wrong
 sized n value bytes = cond (ltb (length bytes) n) (Err (wrong_at Short bytes)) (Ok (value (take n bytes), drop n bytes))
 
@@ -171,18 +171,18 @@ pub byte_stop : (bytes : List ℕ) (e : Wrong) → byte_at bytes ≡ Err e → (
 byte_stop [] e is = (omega arith, cc)
 byte_stop (b ∷ rest) e is = absurd cc
 
--- a byte was read, so it stands at the front
+-- a byte was read, so it stands at the start
 pub byte_read : (bytes : List ℕ) (x : ℕ × List ℕ) → byte_at bytes ≡ Ok x → Took bytes (x.0 ∷ []) x.1
 byte_read [] x is = absurd cc
 byte_read (b ∷ rest) x is = IfOk-at_ok (λ y. Took (b ∷ rest) (y.0 ∷ []) y.1) is refl
 
--- a count of bytes was read, so they stand at the front
+-- a count of bytes was read, so they stand at the start
 pub bytes_read : (n : ℕ) (bytes : List ℕ) (x : List ℕ × List ℕ) → bytes_at n bytes ≡ Ok x → Took bytes x.0 x.1 × (length x.0 ≡ n)
 bytes_read n bytes x is =
     let s = sized_read n (λ text. text) bytes x is in
     subst (λ (text : List ℕ). Took bytes text x.1 × (length text ≡ n)) s.value_is (s.took, s.len)
 
--- bytes at the front are read
+-- bytes at the start are read
 pub bytes_again : (text rest : List ℕ) → bytes_at (length text) (text ++ rest) ≡ Ok (text, rest)
 bytes_again text rest = sized_again (length text) (λ t. t) text rest refl
 
@@ -228,7 +228,7 @@ number_len w128 is n = absurd is
 pub same_number : (w : Width) → IsFieldWidth w → (n m : ℕ) → n < 2 ^ bits w → m < 2 ^ bits w → to_be_bytes w n ≡ to_be_bytes w m → n ≡ m
 same_number w width n m sn sm e = sym (spelled w width n sn).1 ∙ ap (from_be_bytes w) e ∙ (spelled w width m sm).1
 
--- a number was read, so its spelling stands at the front
+-- a number was read, so its spelling stands at the start
 pub number_read : (w : Width) → IsFieldWidth w → (bytes : List ℕ) (x : ℕ × List ℕ) → AreBytes bytes → number_at w bytes ≡ Ok x → Took bytes (to_be_bytes w x.0) x.1 × (x.0 < 2 ^ bits w)
 number_read w width bytes x are is =
     let s = sized_read (byte_len w) (from_be_bytes w) bytes x is in
@@ -247,7 +247,7 @@ number_again w width n rest small =
     let number = spelled w width n small in
     sized_again (byte_len w) (from_be_bytes w) (to_be_bytes w n) rest number.0 ∙ ap (λ (m : ℕ). Ok (m, rest)) number.1
 
--- a count of numbers was read, so their spellings stand at the front
+-- a count of numbers was read, so their spellings stand at the start
 pub numbers_read : (w : Width) → IsFieldWidth w → (n : ℕ) (bytes : List ℕ) (x : List ℕ × List ℕ) → AreBytes bytes → numbers_at w n bytes ≡ Ok x
     → Took bytes (numbers_text w x.0) x.1 × (length x.0 ≡ n) × AllByRecursion (λ m. m < 2 ^ bits w) x.0
 unfolding numbers_at

@@ -20,9 +20,9 @@ use Rattle.plan_file.specs.Reading.{◌>>=◌, wrong_at, byte_at, number_at, fie
 use Rattle.plan_file.specs.Spelling.{flags_of, limit_of, literal_text, literals_text}
 use Rattle.plan_file.proofs.FieldLemmas.{AreBytes, Took, byte_read, field_read, none_stopped, number_read, rest_bytes, same_number, stop, took_both}
 use Rattle.plan_file.proofs.LiteralLemmas.{Follow, IsNext, folded_len_whole, follow_normal, literal_next, literal_read, normal_from}
-use Rattle.plan_file.proofs.PartLemmas.{Whole, bad_within, heads_same, longer_bad, none_bad, one_bad, same_back, same_front, shift, tails_same}
+use Rattle.plan_file.proofs.PartLemmas.{Whole, bad_within, heads_same, longer_bad, none_bad, one_bad, same_back, same_prefix, shift, tails_same}
 use Rattle.plan_file.proofs.Parts.{count_bad, flags_bad, literal_bad, literal_steady, start_steady}
-use Rattle.plan_file.proofs.PlanLemmas.{at_most, between, fold_told, flags_again, flags_can, is_count, is_flag, last_few, limit_few, profile_told}
+use Rattle.plan_file.proofs.PlanLemmas.{at_most, between, fold_again, flags_again, flags_can, is_count, is_flag, last_few, limit_few, profile_again}
 
 -- ---- where reading stops
 
@@ -104,7 +104,7 @@ list_bad version bytes e are is =
 
 -- ---- one literal
 
--- two literals at the front of one text are one
+-- two literals at the start of one text are one
 pub record SameLiteral (a b s t : List ℕ) : Type 0 where
   pub text : a ≡ b
   pub rest : s ≡ t
@@ -112,9 +112,9 @@ pub record SameLiteral (a b s t : List ℕ) : Type 0 where
 pub same_literal : (a b s t : List ℕ) → length a ≤ MAX_LITERAL_LEN → length b ≤ MAX_LITERAL_LEN → literal_text a ++ s ≡ literal_text b ++ t → SameLiteral a b s t
 same_literal a b s t la lb e =
     let split : to_be_bytes w16 (length a) ++ (a ++ s) ≡ to_be_bytes w16 (length b) ++ (b ++ t) = sym (append_assoc (to_be_bytes w16 (length a)) a s) ∙ e ∙ append_assoc (to_be_bytes w16 (length b)) b t in
-    let len : length a ≡ length b = same_number w16 tt (length a) (length b) (omega (arith, la)) (omega (arith, lb)) (same_front (to_be_bytes w16 (length a)) (to_be_bytes w16 (length b)) (a ++ s) (b ++ t) refl split) in
+    let len : length a ≡ length b = same_number w16 tt (length a) (length b) (omega (arith, la)) (omega (arith, lb)) (same_prefix (to_be_bytes w16 (length a)) (to_be_bytes w16 (length b)) (a ++ s) (b ++ t) refl split) in
     let back = same_back (to_be_bytes w16 (length a)) (to_be_bytes w16 (length b)) (a ++ s) (b ++ t) refl split in
-    record { text = same_front a b s t len back; rest = same_back a b s t len back }
+    record { text = same_prefix a b s t len back; rest = same_back a b s t len back }
 
 -- the fields of a literal are its spelling
 literal_fields_text : (text later : List ℕ) → literal_text text ++ later ≡ text_of (literal_fields text) ++ later
@@ -260,7 +260,7 @@ one_after fold room before (t ∷ ts) (u ∷ us) r s w v ft fu e one other =
 start_text : (start : Start) (rest : List ℕ) → text_of (start_fields start) ++ rest ≡ flags_of start.fold start.profile ∷ (to_be_bytes w16 start.count ++ rest)
 start_text start rest = refl
 
--- two starts at the front of one text are one
+-- two starts at the start of one text are one
 record SameStart (a b : Start) (s t : List ℕ) : Type 0 where
   start : a ≡ b
   rest : s ≡ t
@@ -269,9 +269,9 @@ same_start : (version : Version) (a b : Start) (s t : List ℕ) → FitsStart ve
 same_start version a b s t fa fb e =
     let flags : flags_of a.fold a.profile ≡ flags_of b.fold b.profile = heads_same e in
     let split : to_be_bytes w16 a.count ++ s ≡ to_be_bytes w16 b.count ++ t = tails_same e in
-    let count : a.count ≡ b.count = same_number w16 tt a.count b.count (omega (arith, fa.few, limit_few version)) (omega (arith, fb.few, limit_few version)) (same_front (to_be_bytes w16 a.count) (to_be_bytes w16 b.count) s t refl split) in
-    let fold : a.fold ≡ b.fold = sym (fold_told a.fold a.profile) ∙ ap fold_of flags ∙ fold_told b.fold b.profile in
-    let profile : a.profile ≡ b.profile = sym (profile_told a.fold a.profile) ∙ ap profile_of flags ∙ profile_told b.fold b.profile in
+    let count : a.count ≡ b.count = same_number w16 tt a.count b.count (omega (arith, fa.few, limit_few version)) (omega (arith, fb.few, limit_few version)) (same_prefix (to_be_bytes w16 a.count) (to_be_bytes w16 b.count) s t refl split) in
+    let fold : a.fold ≡ b.fold = sym (fold_again a.fold a.profile) ∙ ap fold_of flags ∙ fold_again b.fold b.profile in
+    let profile : a.profile ≡ b.profile = sym (profile_again a.fold a.profile) ∙ ap profile_of flags ∙ profile_again b.fold b.profile in
     record {
       start = ap (λ (x : Fold). record { fold = x; profile = a.profile; count = a.count }) fold ∙ ap (λ (x : Profile). record { fold = b.fold; profile = x; count = a.count }) profile ∙ ap (λ (x : ℕ). record { fold = b.fold; profile = b.profile; count = x }) count;
       rest = same_back (to_be_bytes w16 a.count) (to_be_bytes w16 b.count) s t refl split;
@@ -344,7 +344,7 @@ pub longer_list : (version : Version) (bytes tail : List ℕ) (w : Wrong) → Wh
 longer_list version bytes tail w whole (inl bad) =
     inl (longer_bad (FitsStart version) start_fields (start_steady version) 3 (λ start fits. omega arith) bytes tail w (whole_fewer 3 list_bytes bytes w (omega arith) whole) bad)
 longer_list version bytes tail w whole (inr i) =
-    let front = text_of (start_fields i.start) in
+    let prefix = text_of (start_fields i.start) in
     let texts = flat_map literal_text i.texts in
     let room = MAX_LIST_LEN - sum_by length i.texts in
     let enough : list_bytes ≤ length bytes → 2 + room ≤ length i.rest =
@@ -354,7 +354,7 @@ longer_list version bytes tail w whole (inr i) =
       fits = i.fits;
       texts = i.texts;
       rest = i.rest ++ tail;
-      bytes_are = ap (λ (t : List ℕ). t ++ tail) i.bytes_are ∙ append_assoc front (texts ++ i.rest) tail ∙ ap (λ (t : List ℕ). front ++ t) (append_assoc texts i.rest tail);
+      bytes_are = ap (λ (t : List ℕ). t ++ tail) i.bytes_are ∙ append_assoc prefix (texts ++ i.rest) tail ∙ ap (λ (t : List ℕ). prefix ++ t) (append_assoc texts i.rest tail);
       missing = i.missing;
       right = i.right;
       wrong = longer_literal i.start.fold room (last_of [] i.texts) i.rest tail w (whole_rest list_bytes (2 + room) bytes i.rest w enough whole) i.wrong;

@@ -22,7 +22,7 @@ use Rattle.plan_file.specs.Reading.{◌>>=◌, wrong_at, number_at, bytes_at, fi
 use Rattle.plan_file.specs.Spelling.{literal_text}
 use Rattle.plan_file.proofs.FieldLemmas.{AreBytes, Took, took_both, rest_bytes, step, went_on, passed, field_read, field_again, bytes_read, bytes_again, number_read, number_again, number_rest}
 
--- ---- folded bytes at the front
+-- ---- folded bytes at the start
 
 -- where the first byte that is not folded stands
 pub unfolded_at : (fold : Fold) (text : List ℕ) (i : ℕ) → i < length text → ((k : ℕ) → k < i → folded fold (get_or text k 0) ≡ get_or text k 0) → folded fold (get_or text i 0) ≢ get_or text i 0 → i ≡ folded_len fold text
@@ -77,8 +77,8 @@ pub record IsNext (fold : Fold) (room : ℕ) (before text : List ℕ) : Type 0 w
 abbrev pub in_range : ℕ → ℕ → Bool
 in_range room n = leb 1 n && leb n MAX_LITERAL_LEN && leb n room
 
-pub in_range_tells : (room n : ℕ) → in_range room n ≡ true → (1 ≤ n) × (n ≤ MAX_LITERAL_LEN) × (n ≤ room)
-in_range_tells room n e = (grind (arith, nat_tests), grind (arith, nat_tests), grind (arith, nat_tests))
+pub in_range_bounds : (room n : ℕ) → in_range room n ≡ true → (1 ≤ n) × (n ≤ MAX_LITERAL_LEN) × (n ≤ room)
+in_range_bounds room n e = (grind (arith, nat_tests), grind (arith, nat_tests), grind (arith, nat_tests))
 
 pub in_range_from : (room n : ℕ) → 1 ≤ n → n ≤ MAX_LITERAL_LEN → n ≤ room → in_range room n ≡ true
 in_range_from room n some short fits = grind (arith, nat_tests)
@@ -111,7 +111,7 @@ parts fold room before bytes x e =
     let whole = went_on (ltb (folded_len fold text) (length text)) (wrong_at Literal (drop (folded_len fold text) rest)) (cond (is_lt (literal_cmp before text)) (Ok b.value) (Err (wrong_at Order bytes))) x b.second in
     let above = passed (is_lt (literal_cmp before text)) (Ok b.value) (wrong_at Order bytes) x whole.1 in
     let size = (bytes_read len rest b.value b.first).1 in
-    let range = in_range_tells room len f.1 in
+    let range = in_range_bounds room len f.1 in
     IfOk-at_ok (Parts fold room before bytes) above.1 (record {
       len = len;
       rest = rest;
@@ -137,7 +137,7 @@ literal_rest fold room before bytes x e =
     let t = bytes_read p.len p.rest x p.taken in
     omega (arith, number_rest w16 bytes (p.len, p.rest) p.number, t.1, ap length t.0, length-append x.0 x.1)
 
--- its length and its bytes stand at the front
+-- its length and its bytes stand at the start
 pub literal_read : (fold : Fold) (room : ℕ) (before bytes : List ℕ) (x : List ℕ × List ℕ) → AreBytes bytes → literal_at fold room before bytes ≡ Ok x → Took bytes (literal_text x.0) x.1
 literal_read fold room before bytes x are e =
     let p = parts fold room before bytes x e in
@@ -173,7 +173,7 @@ literals_follow fold (suc n) room before bytes x e =
     let others = literals_follow fold n (room - length first.0) first.0 first.1 b.value b.first in
     IfOk-at_ok (λ y. (length y.0 ≡ suc n) × Follow fold room before y.0) {r = Ok (first.0 ∷ b.value.0, b.value.1)} b.second (omega (arith, others.0), (literal_next fold room before bytes first a.first, others.1))
 
--- their spellings stand at the front
+-- their spellings stand at the start
 pub literals_read : (fold : Fold) (n room : ℕ) (before bytes : List ℕ) (x : List (List ℕ) × List ℕ) → AreBytes bytes → literals_at fold n room before bytes ≡ Ok x → Took bytes (flat_map literal_text x.0) x.1
 unfolding literals_at
 literals_read fold zero room before bytes x are e = IfOk-at_ok (λ y. Took bytes (flat_map literal_text y.0) y.1) e refl

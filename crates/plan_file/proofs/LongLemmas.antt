@@ -55,15 +55,15 @@ next_longer : (version : Version) (missing : ℕ) (rest tail : List ℕ) (w : Wr
 next_longer version zero rest tail w whole h = (append_some rest tail h.0, ap (shift (length tail)) h.1 ∙ shift_at Trailing rest tail)
 next_longer version (suc missing) rest tail w whole h = longer_entry version rest tail w (whole (omega arith)) h
 
--- a whole fault of a front is a fault of the text
-wrong_longer : (front tail : List ℕ) (w : Wrong) → Whole file_bytes front w → IsWrong front w → IsWrong (front ++ tail) (shift (length tail) w)
-wrong_longer front tail w whole (inl bad) = inl (longer_bad FitsHead head_fields head_steady 8 (λ head fits. omega arith) front tail w (whole_fewer 8 file_bytes front w (omega arith) whole) bad)
-wrong_longer front tail w whole (inr h) =
+-- a whole fault of a prefix is a fault of the text
+wrong_longer : (prefix tail : List ℕ) (w : Wrong) → Whole file_bytes prefix w → IsWrong prefix w → IsWrong (prefix ++ tail) (shift (length tail) w)
+wrong_longer prefix tail w whole (inl bad) = inl (longer_bad FitsHead head_fields head_steady 8 (λ head fits. omega arith) prefix tail w (whole_fewer 8 file_bytes prefix w (omega arith) whole) bad)
+wrong_longer prefix tail w whole (inr h) =
     let after = h.wrong in
     let head = head_text h.version h.count in
     let plans = flat_map plan_text after.plans in
     let size : length plans ≤ most_bytes * length after.plans = plans_len h.version after.plans (by_recursion h.version after.plans after.each) in
-    let enough : 0 < h.count - length after.plans → file_bytes ≤ length front → most_bytes ≤ length after.rest =
+    let enough : 0 < h.count - length after.plans → file_bytes ≤ length prefix → most_bytes ≤ length after.rest =
     λ some le. omega (arith, some, le, h.few, size, ap length h.text_is, length-append head h.rest, length-head_text h.version h.count, ap length after.text_is, length-append plans after.rest) in
     inr (record {
       version = h.version;
@@ -77,26 +77,26 @@ wrong_longer front tail w whole (inr h) =
         each = after.each;
         within = after.within;
         text_is = ap (λ (t : List ℕ). t ++ tail) after.text_is ∙ append_assoc plans after.rest tail;
-        wrong = next_longer h.version (h.count - length after.plans) after.rest tail w (λ some. whole_rest file_bytes most_bytes front after.rest w (enough some) whole) after.wrong;
+        wrong = next_longer h.version (h.count - length after.plans) after.rest tail w (λ some. whole_rest file_bytes most_bytes prefix after.rest w (enough some) whole) after.wrong;
       };
     })
 
 -- a first fault that is whole is the first fault whatever follows
-first_whole : (front tail : List ℕ) (place : ℕ) (cause : Cause) → Whole file_bytes front (at_left cause (length front - place)) → IsFirstFault front place cause → IsFirstFault (front ++ tail) place cause
-first_whole front tail place cause whole first =
-    let left : (length front - place) + length tail ≡ length (front ++ tail) - place = omega (arith, length-append front tail, first.within) in
+first_whole : (prefix tail : List ℕ) (place : ℕ) (cause : Cause) → Whole file_bytes prefix (at_left cause (length prefix - place)) → IsFirstFault prefix place cause → IsFirstFault (prefix ++ tail) place cause
+first_whole prefix tail place cause whole first =
+    let left : (length prefix - place) + length tail ≡ length (prefix ++ tail) - place = omega (arith, length-append prefix tail, first.within) in
     record {
-      within = omega (arith, length-append front tail, first.within);
-      wrong = subst (IsWrong (front ++ tail)) (ap (at_left cause) left) (wrong_longer front tail (at_left cause (length front - place)) whole first.wrong);
+      within = omega (arith, length-append prefix tail, first.within);
+      wrong = subst (IsWrong (prefix ++ tail)) (ap (at_left cause) left) (wrong_longer prefix tail (at_left cause (length prefix - place)) whole first.wrong);
     }
 
--- the first fault of a long front is the first fault of the text
-pub first_longer : (front tail : List ℕ) (place : ℕ) (cause : Cause) → IsLong front → IsFirstFault front place cause → IsFirstFault (front ++ tail) place cause
-first_longer front tail place cause long first = first_whole front tail place cause (inr (omega (arith, long))) first
+-- the first fault of a long prefix is the first fault of the text
+pub first_longer : (prefix tail : List ℕ) (place : ℕ) (cause : Cause) → IsLong prefix → IsFirstFault prefix place cause → IsFirstFault (prefix ++ tail) place cause
+first_longer prefix tail place cause long first = first_whole prefix tail place cause (inr (omega (arith, long))) first
 
 -- a first fault that is no want of bytes is the first one whatever follows
-pub first_stays : (front tail : List ℕ) (place : ℕ) (cause : Cause) → cause ≢ Short → IsFirstFault front place cause → IsFirstFault (front ++ tail) place cause
-first_stays front tail place cause not_short first = first_whole front tail place cause (inl not_short) first
+pub first_stays : (prefix tail : List ℕ) (place : ℕ) (cause : Cause) → cause ≢ Short → IsFirstFault prefix place cause → IsFirstFault (prefix ++ tail) place cause
+first_stays prefix tail place cause not_short first = first_whole prefix tail place cause (inl not_short) first
 
 -- so no bytes make a file of it
 pub never_begins : (text : List ℕ) (place : ℕ) (cause : Cause) → IsFirstFault text place cause → cause ≢ Short → BeginsFile text → ⊥

@@ -23,7 +23,7 @@ cons_same p q = (cc)
 
 -- ---- one entry
 
--- a right plan at the front is read
+-- a right plan at the start is read
 read_at : (version : Version) (p : Plan) (bytes rest : List ℕ) → IsPlan version p → bytes ≡ plan_text p ++ rest → plan_at version bytes ≡ Ok (p, rest)
 read_at version p bytes rest is e = ap (plan_at version) e ∙ plan_again version p rest is.fields
 
@@ -39,7 +39,7 @@ right_next : (version : Version) (missing : ℕ) (p : Plan) (bytes rest : List �
 right_next version zero p bytes rest w some is e wrong = absurd (omega arith)
 right_next version (suc missing) p bytes rest w some is e wrong = right_entry version p bytes rest w is e wrong
 
--- two plans at the front are one, and the same bytes follow them
+-- two plans at the start are one, and the same bytes follow them
 record SameFirst (p q : Plan) (s t : List ℕ) : Type 0 where
   plan : p ≡ q
   rest : s ≡ t
@@ -118,7 +118,7 @@ head_fields_text h rest = refl
 right_head : (text rest : List ℕ) (version : Version) (count : ℕ) (w : Wrong) → count ≤ 64 → text ≡ head_text version count ++ rest → IsFirstBad FitsHead head_fields text w → ⊥
 right_head text rest version count w few e bad = none_bad FitsHead head_fields head_steady text rest w (version, count) few (e ∙ head_fields_text (version, count) rest) bad
 
--- two heads at the front of one text are one
+-- two heads at the start of one text are one
 one_head : (version other : Version) (count number : ℕ) (s t : List ℕ) → count ≤ 64 → number ≤ 64 → head_text version count ++ s ≡ head_text other number ++ t → ◌≡◌ {A = Head} ((version, count), s) ((other, number), t)
 one_head version other count number s t few also e = one_value (head_again version count s few) (ap head_at e ∙ head_again other number t also)
 
@@ -225,8 +225,8 @@ first_fault text w wrong =
     record { within = omega arith; wrong = subst (IsWrong text) (ap (at_left w.cause) left) wrong }
 
 -- a call that gives a place and a cause gives the first fault's
-pub told : {X : Type 0} (f : ℕ → Cause → X) (text : List ℕ) (w : Wrong) (place : ℕ) (cause : Cause) → IsWrong text w → IsFirstFault text place cause → f (length text - w.left) w.cause ≡ f place cause
-told f text w place cause wrong first =
+pub same_cause : {X : Type 0} (f : ℕ → Cause → X) (text : List ℕ) (w : Wrong) (place : ℕ) (cause : Cause) → IsWrong text w → IsFirstFault text place cause → f (length text - w.left) w.cause ≡ f place cause
+same_cause f text w place cause wrong first =
     let same : w ≡ at_left cause (length text - place) = one_wrong text w (at_left cause (length text - place)) wrong first.wrong in
     let places : length text - w.left ≡ place = omega (arith, ap (λ (x : Wrong). x.left) same, first.within) in
     let causes : w.cause ≡ cause = ap (λ (x : Wrong). x.cause) same in
@@ -236,7 +236,7 @@ told f text w place cause wrong first =
 pub one_fault : {X : Type 0} (f : ℕ → Cause → X) (text : List ℕ) (place other : ℕ) (cause cause' : Cause) → IsFirstFault text place cause → IsFirstFault text other cause' → f place cause ≡ f other cause'
 one_fault f text place other cause cause' first second =
     let back : place ≡ length text - (length text - place) = omega (arith, first.within) in
-    ap (λ (k : ℕ). f k cause) back ∙ told f text (at_left cause (length text - place)) other cause' first.wrong second
+    ap (λ (k : ℕ). f k cause) back ∙ same_cause f text (at_left cause (length text - place)) other cause' first.wrong second
 
 -- a place and a cause
 abbrev Fault : Type 0

@@ -15,9 +15,9 @@ heads_same e = (cc)
 pub tails_same : {A : Type 0} {x y : A} {xs ys : List A} → x ∷ xs ≡ y ∷ ys → xs ≡ ys
 tails_same e = (cc)
 
--- as many bytes at the front of one text are the same
-pub same_front : (xs ys s t : List ℕ) → length xs ≡ length ys → xs ++ s ≡ ys ++ t → xs ≡ ys
-same_front xs ys s t len e = sym (take_at xs s (length xs) refl) ∙ ap (take (length xs)) e ∙ take_at ys t (length xs) (sym len)
+-- as many bytes at the start of one text are the same
+pub same_prefix : (xs ys s t : List ℕ) → length xs ≡ length ys → xs ++ s ≡ ys ++ t → xs ≡ ys
+same_prefix xs ys s t len e = sym (take_at xs s (length xs) refl) ∙ ap (take (length xs)) e ∙ take_at ys t (length xs) (sym len)
 
 -- and so are the bytes after them
 pub same_back : (xs ys s t : List ℕ) → length xs ≡ length ys → xs ++ s ≡ ys ++ t → s ≡ t
@@ -72,7 +72,7 @@ steady_by_first (b ∷ bs) us vs f g fs gs same e d =
     let left : SameShape (bs ++ us) gs = subst (λ (xs : List Field). SameShape xs gs) (tails_same e) shape in
     next_same bs us vs (subst (λ (xs : List Field). SameShape (bs ++ us) xs) (tails_same d) left)
 
--- ---- two rows of fields at the front of one text
+-- ---- two rows of fields at the start of one text
 
 -- one goes on from the other, with fields that stand there
 pub record GoesOn (short long : List Field) (rest after : List ℕ) : Type 0 where
@@ -108,7 +108,7 @@ meet fits fields_of steady u v fu fv done (f ∷ fs) [] us vs rest after eu ev e
 meet fits fields_of steady u v fu fv done (f ∷ fs) (g ∷ gs) us vs rest after eu ev e =
     let kind : SameKind f g = steady u v done (f ∷ (fs ++ us)) (g ∷ (gs ++ vs)) fu fv eu ev in
     let split = sym (regroup f fs rest) ∙ e ∙ regroup g gs after in
-    let same : f ≡ g = same_field f g (same_front f.bytes g.bytes (text_of fs ++ rest) (text_of gs ++ after) kind.len split) kind.cause in
+    let same : f ≡ g = same_field f g (same_prefix f.bytes g.bytes (text_of fs ++ rest) (text_of gs ++ after) kind.len split) kind.cause in
     let later : text_of fs ++ rest ≡ text_of gs ++ after = same_back f.bytes g.bytes (text_of fs ++ rest) (text_of gs ++ after) kind.len split in
     let left : fields_of u ≡ (done ++ f ∷ []) ++ (fs ++ us) = eu ∙ sym (append_assoc done (f ∷ []) (fs ++ us)) in
     let right : fields_of v ≡ (done ++ f ∷ []) ++ (gs ++ vs) = ev ∙ sym (append_assoc done (g ∷ []) (gs ++ vs)) ∙ ap (λ (x : Field). (done ++ x ∷ []) ++ (gs ++ vs)) (sym same) in
@@ -199,11 +199,11 @@ text_of-append xs ys = flat_map-append (λ (f : Field). f.bytes) xs ys
 abbrev pub shift : ℕ → Wrong → Wrong
 shift k w = record { left = w.left + k; cause = w.cause }
 
--- a front that is long enough holds a field whole
-whole_front : (rest tail bytes more : List ℕ) → length bytes ≤ length rest → rest ++ tail ≡ bytes ++ more → rest ≡ bytes ++ drop (length bytes) rest
-whole_front rest tail bytes more le e =
-    let front : take (length bytes) rest ≡ bytes = sym (take-append-le (length bytes) rest tail le) ∙ ap (take (length bytes)) e ∙ take_at bytes more (length bytes) refl in
-    sym (take-append-drop (length bytes) rest) ∙ ap (λ (t : List ℕ). t ++ drop (length bytes) rest) front
+-- a prefix that is long enough holds a field whole
+whole_prefix : (rest tail bytes more : List ℕ) → length bytes ≤ length rest → rest ++ tail ≡ bytes ++ more → rest ≡ bytes ++ drop (length bytes) rest
+whole_prefix rest tail bytes more le e =
+    let prefix : take (length bytes) rest ≡ bytes = sym (take-append-le (length bytes) rest tail le) ∙ ap (take (length bytes)) e ∙ take_at bytes more (length bytes) refl in
+    sym (take-append-drop (length bytes) rest) ∙ ap (λ (t : List ℕ). t ++ drop (length bytes) rest) prefix
 
 -- the fault is another than a want of bytes, or there are as many bytes as any part has
 abbrev pub Whole : ℕ → List ℕ → Wrong → Type 0
@@ -238,7 +238,7 @@ longer_bad {Part} fits fields_of steady most few bytes tail w whole bad =
     stands : (other : Part) (next : Field) (later : List Field) (more : List ℕ) → fits other → fields_of other ≡ bad.before ++ next ∷ later → bad.rest ++ tail ≢ next.bytes ++ more
     stands other next later more fo eo is =
         let kind : SameKind bad.field next = steady bad.part other bad.before (bad.field ∷ bad.after) (next ∷ later) bad.fitting fo bad.fields_are eo in
-        bad.none other next later (drop (length next.bytes) bad.rest) fo eo (whole_front bad.rest tail next.bytes more (omega (arith, le, kind.len)) is)
+        bad.none other next later (drop (length next.bytes) bad.rest) fo eo (whole_prefix bad.rest tail next.bytes more (omega (arith, le, kind.len)) is)
 
 -- ---- where it stands
 

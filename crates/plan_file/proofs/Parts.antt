@@ -23,10 +23,10 @@ use Rattle.plan_file.specs.declared.version.Version.TheVariants.{One, Two}
 use Rattle.plan_file.specs.FirstBad.{Field, FitsCertificate, FitsHead, FitsLiteral, FitsStart, IsFirstBad, Start, byte_field, certificate_fields, head_fields, literal_fields, number_field, start_fields, text_of}
 use Rattle.plan_file.specs.FirstFaults.{IsFull, IsWrongLiteral}
 use Rattle.plan_file.specs.Reading.{◌>>=◌, wrong_at, byte_at, bytes_at, number_at, field, folded_len, literal_at, numbers_at, certificate_at, fold_of, last_flags, profile_of, version_of, head_at}
-use Rattle.plan_file.specs.Spelling.{CanTell, flags_of, limit_of, literal_text, numbers_text, version_number}
+use Rattle.plan_file.specs.Spelling.{CanExpress, flags_of, limit_of, literal_text, numbers_text, version_number}
 use Rattle.plan_file.proofs.FieldLemmas.{AreBytes, IsFieldWidth, NumbersStop, Took, byte_read, byte_stop, bytes_read, bytes_stop, field_read, field_stop, none_stopped, number_len, number_read, number_rest, number_stop, numbers_read, numbers_stop, rest_bytes, same_number, stop, took_both}
-use Rattle.plan_file.proofs.LiteralLemmas.{folded_whole, in_range, in_range_from, in_range_tells}
-use Rattle.plan_file.proofs.PartLemmas.{SameShape, Steady, heads_same, other_bad, same_front, short_bad, steady_by_first, tails_same, text_of-append}
+use Rattle.plan_file.proofs.LiteralLemmas.{folded_whole, in_range, in_range_from, in_range_bounds}
+use Rattle.plan_file.proofs.PartLemmas.{SameShape, Steady, heads_same, other_bad, same_prefix, short_bad, steady_by_first, tails_same, text_of-append}
 use Rattle.plan_file.proofs.PlanLemmas.{below_from, between, between_from, flags_again, flags_can, flags_pass, is_count, is_few, is_flag, is_number, last_few, limit_few, version_again, version_passes, version_small}
 
 -- ---- the kinds of their fields
@@ -99,7 +99,7 @@ number_bad {Part} fits fields_of steady u fu before w width passes cause m after
         let p = only other next later fo eo in
         let len : length (to_be_bytes w x.0) ≡ length (to_be_bytes w p.number) = number_len w width x.0 ∙ sym (number_len w width p.number) in
         let text : to_be_bytes w x.0 ++ x.1 ≡ to_be_bytes w p.number ++ more = sym took ∙ is ∙ ap (λ (t : List ℕ). t ++ more) p.bytes_are in
-        let same : x.0 ≡ p.number = same_number w width x.0 p.number small p.small (same_front (to_be_bytes w x.0) (to_be_bytes w p.number) x.1 more len text) in
+        let same : x.0 ≡ p.number = same_number w width x.0 p.number small p.small (same_prefix (to_be_bytes w x.0) (to_be_bytes w p.number) x.1 more len text) in
         not_both (ap passes same ∙ p.pass) fails
 
 -- the field is a byte that passes
@@ -220,7 +220,7 @@ count_passes version before other next later fo eo = record {
   pass = between_from 1 (limit_of version) other.count fo.some fo.few;
 }
 
-pub eight_can : (version : Version) → CanTell version Eight
+pub eight_can : (version : Version) → CanExpress version Eight
 eight_can One = refl
 eight_can Two = tt
 
@@ -279,7 +279,7 @@ full bytes e is =
 -- a literal that is not whole
 text_bad : (room n : ℕ) (bytes rest : List ℕ) (e : Wrong) → in_range room n ≡ true → bytes ≡ to_be_bytes w16 n ++ rest → length rest < n → e ≡ wrong_at Short rest → IsFirstBad (FitsLiteral room) literal_fields bytes e
 text_bad room n bytes rest e range took short wrong =
-    let r = in_range_tells room n range in
+    let r = in_range_bounds room n range in
     let len = length-zeros n in
     let fits : FitsLiteral room (zeros n) = record { some = omega (arith, r.0, len); short = omega (arith, r.1, len); fits = omega (arith, r.2, len) } in
     subst (IsFirstBad (FitsLiteral room) literal_fields bytes) (sym wrong)
@@ -338,7 +338,7 @@ literal_bad fold room before bytes e are is =
             | inl f ↦ let s = bytes_stop p.0.0 p.0.1 e f in inl (text_bad room p.0.0 bytes p.0.1 e read.1 number.0 s.0 s.1)
             | inr q ↦
                 let text = bytes_read p.0.0 p.0.1 q.0 q.1 in
-                let range = in_range_tells room p.0.0 read.1 in
+                let range = in_range_bounds room p.0.0 read.1 in
                 let fits : FitsLiteral room q.0.0 = record { some = omega (arith, text.1, range.0); short = omega (arith, text.1, range.1); fits = omega (arith, text.1, range.2) } in
                 let whole = subst (λ (k : ℕ). Took bytes (to_be_bytes w16 k ++ q.0.0) q.0.1) (sym text.1) (took_both (to_be_bytes w16 p.0.0) q.0.0 q.0.1 number.0 text.0) in
                 test_bad fold room before bytes p.0.1 q.0.0 q.0.1 e fits whole text.0 q.2
@@ -446,13 +446,13 @@ potentials_bad profile n ends cost bytes rest e some few small small_cost took s
     let after = potential_fields (zeros k) in
     let fields : certificate_fields (made profile ends cost hs) ≡ (head ++ middle) ++ number_field w64 Short 0 ∷ after =
     ap (λ (t : List Field). head ++ number_field w64 Short cost ∷ t) (map-append (number_field w64 Short) s.numbers (0 ∷ zeros k)) ∙ sym (append_assoc head middle (number_field w64 Short 0 ∷ after)) in
-    let front : text_of (head ++ middle) ≡ length ends ∷ (numbers_text w16 ends ++ (to_be_bytes w64 cost ++ numbers_text w64 s.numbers)) =
+    let prefix : text_of (head ++ middle) ≡ length ends ∷ (numbers_text w16 ends ++ (to_be_bytes w64 cost ++ numbers_text w64 s.numbers)) =
     text_of-append head middle ∙ ap (λ (t : List ℕ). length ends ∷ (t ++ text_of middle)) (numbers_text_of w16 Short ends) ∙ ap (λ (t : List ℕ). length ends ∷ (numbers_text w16 ends ++ (to_be_bytes w64 cost ++ t))) (numbers_text_of w64 Short s.numbers) in
     let all : bytes ≡ text_of (head ++ middle) ++ s.rest =
     took ∙ ap (λ (t : List ℕ). length ends ∷ (numbers_text w16 ends ++ (to_be_bytes w64 cost ++ t))) s.took
     ∙ ap (λ (t : List ℕ). length ends ∷ (numbers_text w16 ends ++ t)) (sym (append_assoc (to_be_bytes w64 cost) (numbers_text w64 s.numbers) s.rest))
     ∙ ap (λ (t : List ℕ). length ends ∷ t) (sym (append_assoc (numbers_text w16 ends) (to_be_bytes w64 cost ++ numbers_text w64 s.numbers) s.rest))
-    ∙ ap (λ (t : List ℕ). t ++ s.rest) (sym front) in
+    ∙ ap (λ (t : List ℕ). t ++ s.rest) (sym prefix) in
     subst (IsFirstBad (FitsCertificate profile n) certificate_fields bytes) (sym s.wrong)
     (short_bad (FitsCertificate profile n) certificate_fields (certificate_steady profile n) (made profile ends cost hs) fits (head ++ middle) (number_field w64 Short 0) after bytes s.rest fields all s.short)
 

@@ -20,7 +20,7 @@ use Rattle.plan_file.specs.declared.fault.Wrong.{Wrong}
 use Rattle.plan_file.specs.declared.version.Version.{Version}
 use Rattle.plan_file.specs.declared.version.Version.TheVariants.{One, Two}
 use Rattle.plan_file.specs.Reading.{◌>>=◌, byte_at, number_at, field, numbers_at, literals_at, last_flags, fold_of, profile_of, list_at, certificate_at, plan_at, version_of, head_at}
-use Rattle.plan_file.specs.Spelling.{CanTell, flags_of, limit_of, numbers_text, literal_text, literals_text, certificate_text, plan_text, head_text, version_number, HasFields}
+use Rattle.plan_file.specs.Spelling.{CanExpress, flags_of, limit_of, numbers_text, literal_text, literals_text, certificate_text, plan_text, head_text, version_number, HasFields}
 use Rattle.plan_file.proofs.FieldLemmas.{AreBytes, Took, took_both, rest_bytes, step, field_read, field_again, byte_read, number_read, number_again, numbers_read, numbers_again}
 use Rattle.plan_file.proofs.LiteralLemmas.{literals_read, literals_follow, literals_again, normal_from, follow_normal}
 
@@ -57,13 +57,13 @@ flags_again (suc (suc (suc zero))) le = refl
 flags_again (suc (suc (suc (suc b)))) le = absurd (omega (arith, le))
 
 -- it has no profile that the version cannot spell
-pub flags_can : (version : Version) (b : ℕ) → b ≤ last_flags version → CanTell version (profile_of b)
+pub flags_can : (version : Version) (b : ℕ) → b ≤ last_flags version → CanExpress version (profile_of b)
 flags_can One zero le = refl
 flags_can One (suc zero) le = refl
 flags_can One (suc (suc b)) le = absurd (omega (arith, le))
 flags_can Two b le = tt
 
-pub flags_pass : (version : Version) (fold : Fold) (profile : Profile) → CanTell version profile → is_flag version (flags_of fold profile) ≡ true
+pub flags_pass : (version : Version) (fold : Fold) (profile : Profile) → CanExpress version profile → is_flag version (flags_of fold profile) ≡ true
 flags_pass One No Eight can = refl
 flags_pass One Ascii Eight can = refl
 flags_pass One fold Sixteen can = absurd cc
@@ -72,17 +72,17 @@ flags_pass Two Ascii Eight can = refl
 flags_pass Two No Sixteen can = refl
 flags_pass Two Ascii Sixteen can = refl
 
-pub fold_told : (fold : Fold) (profile : Profile) → fold_of (flags_of fold profile) ≡ fold
-fold_told No Eight = refl
-fold_told Ascii Eight = refl
-fold_told No Sixteen = refl
-fold_told Ascii Sixteen = refl
+pub fold_again : (fold : Fold) (profile : Profile) → fold_of (flags_of fold profile) ≡ fold
+fold_again No Eight = refl
+fold_again Ascii Eight = refl
+fold_again No Sixteen = refl
+fold_again Ascii Sixteen = refl
 
-pub profile_told : (fold : Fold) (profile : Profile) → profile_of (flags_of fold profile) ≡ profile
-profile_told No Eight = refl
-profile_told Ascii Eight = refl
-profile_told No Sixteen = refl
-profile_told Ascii Sixteen = refl
+pub profile_again : (fold : Fold) (profile : Profile) → profile_of (flags_of fold profile) ≡ profile
+profile_again No Eight = refl
+profile_again Ascii Eight = refl
+profile_again No Sixteen = refl
+profile_again Ascii Sixteen = refl
 
 -- ---- literals
 
@@ -97,9 +97,9 @@ pub record ListRead (version : Version) (bytes : List ℕ) (x : (Profile × Lite
   pub normal : IsNormal x.0.1
   pub some : 1 ≤ length x.0.1.texts
   pub few : length x.0.1.texts ≤ limit_of version
-  pub profile : CanTell version x.0.0
+  pub profile : CanExpress version x.0.0
 
--- the literals were read, so their spelling stands at the front
+-- the literals were read, so their spelling stands at the start
 pub list_read : (version : Version) (bytes : List ℕ) (x : (Profile × Literals) × List ℕ) → AreBytes bytes → list_at version bytes ≡ Ok x → ListRead version bytes x
 unfolding list_at
 list_read version bytes x are e =
@@ -133,7 +133,7 @@ list_read version bytes x are e =
       profile = flags_can version flags known;
     })
 
-list_again_with : (version : Version) (profile : Profile) (fold : Fold) (texts : List (List ℕ)) (rest : List ℕ) → IsNormal (record { folding = fold; texts = texts }) → 1 ≤ length texts → length texts ≤ limit_of version → CanTell version profile
+list_again_with : (version : Version) (profile : Profile) (fold : Fold) (texts : List (List ℕ)) (rest : List ℕ) → IsNormal (record { folding = fold; texts = texts }) → 1 ≤ length texts → length texts ≤ limit_of version → CanExpress version profile
     → list_at version (flags_of fold profile ∷ (to_be_bytes w16 (length texts) ++ (flat_map literal_text texts ++ rest))) ≡ Ok ((profile, record { folding = fold; texts = texts }), rest)
 unfolding list_at
 list_again_with version profile fold texts rest normal some few can =
@@ -141,9 +141,9 @@ list_again_with version profile fold texts rest normal some few can =
     let after = flat_map literal_text texts ++ rest in
     let bytes = to_be_bytes w16 (length texts) ++ after in
     let n = field_again bytes (is_count limit) Count (number_at w16 bytes) (length texts, after) (number_again w16 tt (length texts) after (omega (arith, normal.few))) (between_from 1 limit (length texts) some few) in
-    rw (flags_pass version fold profile can, n, fold_told fold profile, profile_told fold profile, literals_again fold MAX_LIST_LEN [] texts rest (follow_normal (record { folding = fold; texts = texts }) normal)) refl
+    rw (flags_pass version fold profile can, n, fold_again fold profile, profile_again fold profile, literals_again fold MAX_LIST_LEN [] texts rest (follow_normal (record { folding = fold; texts = texts }) normal)) refl
 
-pub list_again : (version : Version) (profile : Profile) (l : Literals) (rest : List ℕ) → IsNormal l → 1 ≤ length l.texts → length l.texts ≤ limit_of version → CanTell version profile → list_at version (literals_text profile l ++ rest) ≡ Ok ((profile, l), rest)
+pub list_again : (version : Version) (profile : Profile) (l : Literals) (rest : List ℕ) → IsNormal l → 1 ≤ length l.texts → length l.texts ≤ limit_of version → CanExpress version profile → list_at version (literals_text profile l ++ rest) ≡ Ok ((profile, l), rest)
 list_again version profile l rest normal some few can =
     let flags = flags_of l.folding profile in
     let regrouped : literals_text profile l ++ rest ≡ flags ∷ (to_be_bytes w16 (length l.texts) ++ (flat_map literal_text l.texts ++ rest)) =
@@ -165,9 +165,9 @@ pub record CertificateFits (n : ℕ) (c : CertificateParts) : Type 0 where
 pub record CertificateRead (profile : Profile) (n : ℕ) (bytes : List ℕ) (x : CertificateParts × List ℕ) : Type 0 where
   pub took : Took bytes (certificate_text x.0) x.1
   pub fits : CertificateFits n x.0
-  pub told : x.0.profile ≡ profile
+  pub profile_is : x.0.profile ≡ profile
 
--- a certificate was read, so its spelling stands at the front
+-- a certificate was read, so its spelling stands at the start
 pub certificate_read : (profile : Profile) (n : ℕ) (bytes : List ℕ) (x : CertificateParts × List ℕ) → AreBytes bytes → certificate_at profile n bytes ≡ Ok x → CertificateRead profile n bytes x
 unfolding certificate_at
 certificate_read profile n bytes x are e =
@@ -201,7 +201,7 @@ certificate_read profile n bytes x are e =
         potentials = rows.1;
         small_potentials = rows.2;
       };
-      told = refl;
+      profile_is = refl;
     })
 
 pub certificate_again : (n : ℕ) (c : CertificateParts) (rest : List ℕ) → CertificateFits n c → certificate_at c.profile n (certificate_text c ++ rest) ≡ Ok (c, rest)
@@ -224,7 +224,7 @@ pub record PlanRead (version : Version) (bytes : List ℕ) (x : Plan × List ℕ
   pub took : Took bytes (plan_text x.0) x.1
   pub fields : HasFields version x.0
 
--- an entry was read, so its spelling stands at the front
+-- an entry was read, so its spelling stands at the start
 pub plan_read : (version : Version) (bytes : List ℕ) (x : Plan × List ℕ) → AreBytes bytes → plan_at version bytes ≡ Ok x → PlanRead version bytes x
 unfolding plan_at plan_text
 plan_read version bytes x are e =
@@ -236,14 +236,14 @@ plan_read version bytes x are e =
     let certificate = b.value.0 in
     let l = list_read version bytes a.value are a.first in
     let c = certificate_read profile (length literals.texts) a.value.1 b.value (rest_bytes (literals_text profile literals) a.value.1 l.took are) b.first in
-    let told = subst (λ (profile : Profile). Took bytes (literals_text profile literals) a.value.1) (sym c.told) l.took in
+    let profile_is = subst (λ (profile : Profile). Took bytes (literals_text profile literals) a.value.1) (sym c.profile_is) l.took in
     IfOk-at_ok (PlanRead version bytes) {r = Ok (made literals b.value)} b.second (record {
-      took = took_both (literals_text certificate.profile literals) (certificate_text certificate) b.value.1 told c.took;
+      took = took_both (literals_text certificate.profile literals) (certificate_text certificate) b.value.1 profile_is c.took;
       fields = record {
         normal = l.normal;
         some = l.some;
         few = l.few;
-        profile = subst (CanTell version) (sym c.told) l.profile;
+        profile = subst (CanExpress version) (sym c.profile_is) l.profile;
         some_ends = c.fits.some_ends;
         few_ends = c.fits.few_ends;
         small_ends = All-from_recursion (λ e. e < 2 ^ 16) certificate.ends c.fits.small_ends;
@@ -288,15 +288,15 @@ pub version_passes : (version : Version) → is_count 2 (version_number version)
 version_passes One = refl
 version_passes Two = refl
 
-version_told : (version : Version) → version_of (version_number version) ≡ version
-version_told One = refl
-version_told Two = refl
+version_known : (version : Version) → version_of (version_number version) ≡ version
+version_known One = refl
+version_known Two = refl
 
 pub version_small : (version : Version) → version_number version < 2 ^ 16
 version_small One = omega arith
 version_small Two = omega arith
 
--- a head was read, so its spelling stands at the front
+-- a head was read, so its spelling stands at the start
 pub head_read : (bytes : List ℕ) (x : (Version × ℕ) × List ℕ) → AreBytes bytes → head_at bytes ≡ Ok x → Took bytes (head_text x.0.0 x.0.1) x.1 × (x.0.1 ≤ 64)
 unfolding head_at head_text
 head_read bytes x are e =
@@ -328,4 +328,4 @@ head_again version count rest few =
     let regrouped : head_text version count ++ rest ≡ to_be_bytes w32 0x4C504C46 ++ versioned =
     append_assoc (to_be_bytes w32 0x4C504C46) (to_be_bytes w16 number ++ to_be_bytes w16 count) rest ∙ ap (λ (t : List ℕ). to_be_bytes w32 0x4C504C46 ++ t) (append_assoc (to_be_bytes w16 number) (to_be_bytes w16 count) rest) in
     ap head_at regrouped
-    ∙ rw (number_again w32 tt 0x4C504C46 versioned (omega arith), number_again w16 tt number counted (version_small version), version_passes version, number_again w16 tt count rest (omega (arith, few)), below_from count 64 few, version_told version) refl
+    ∙ rw (number_again w32 tt 0x4C504C46 versioned (omega arith), number_again w16 tt number counted (version_small version), version_passes version, number_again w16 tt count rest (omega (arith, few)), below_from count 64 few, version_known version) refl

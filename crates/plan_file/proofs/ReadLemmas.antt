@@ -4,7 +4,7 @@ use Rattle.std.specs.Option.{IfSome}
 use Rattle.std.specs.Result.{IfErr, IfOk, IsOkAnd, IsOkUnless, OnOk}
 use Rattle.std.proofs.lemmas.List.{length-append}
 use Rattle.std.proofs.lemmas.Result.{IfErr-at_err}
-use Rattle.byte_io.specs.Devices.{Coming, Clean, Faulty, EndsHere, Told}
+use Rattle.byte_io.specs.Devices.{Coming, Clean, Faulty, EndsHere, IfKnown}
 use Rattle.byte_io.specs.Transfers.{FaultFollows, ReadsInto}
 use Rattle.lit_plan.specs.Plans.{Plan}
 use Rattle.plan_file.specs.declared.fault.Cause.{Cause}
@@ -23,7 +23,7 @@ Spells items text r = IfOk r (λ v. IsFile text (items v))
 abbrev bad_file : {X : Type 0} → ℕ → Cause → Result X Fault
 bad_file place cause = Err (BadPlanFile place cause)
 
--- what came begins with the front that was read
+-- what came begins with the prefix that was read
 came_is : (x y : Coming) (before text : List ℕ) → before ≡ [] → (r : ReadsInto (Some x) (Some y) before text) → x.text ≡ text ++ y.text
 came_is x y before text empty r =
     let bytes : text ≡ r.bytes = subst (λ (b : List ℕ). text ≡ b ++ r.bytes) empty r.text in
@@ -31,7 +31,7 @@ came_is x y before text empty r =
 
 -- nothing is read of too many bytes
 pub found_long : {X : Type 0} (items : X → List Plan) (old new : Option Coming) (before text : List ℕ) (r : Result X Fault) → IsLong text → ReadsInto old new before text → Spells items text r
-    → Told old new (λ x y. IfOk r (λ v. IsFile x.text (items v) × EndsHere y))
+    → IfKnown old new (λ x y. IfOk r (λ v. IsFile x.text (items v) × EndsHere y))
 found_long items None new before text r long reads found = tt
 found_long items (Some x) None before text r long reads found = absurd reads.given
 found_long items (Some x) (Some y) before text (Ok v) long reads found = absurd (none_spells text (items v) long found)
@@ -63,7 +63,7 @@ only_failed Q limit (Some x) before text failed =
     short : (plans : List Plan) → IsFile x.text plans → length x.text < 2 ^ 40
     short plans f = omega (arith, spelled_short x.text plans f)
 
--- the first fault of the front is the first fault of all bytes
+-- the first fault of the prefix is the first fault of all bytes
 pub wrong_long : {X : Type 0} (old new : Option Coming) (before text : List ℕ) (r : Result X Fault) → before ≡ [] → IsLong text → ReadsInto old new before text → IfErr r (IfBadFile (IsFirstFault text))
     → IfSome old (λ x. (place : ℕ) (cause : Cause) → r ≡ Err (BadPlanFile place cause) → IsFirstFault x.text place cause)
 wrong_long None new before text r empty long reads wrong = tt

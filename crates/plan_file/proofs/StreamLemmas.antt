@@ -103,8 +103,8 @@ wrong_entry version bytes stop.OutOfMemory are wrong = tt
 wrong_entry version bytes (stop.Wrong w) are wrong = entry_bad version bytes w are wrong
 
 -- one more entry is written after those before it
-pub entries_more : (front old new : List ℕ) (plans : List Plan) (i : ℕ) (p : Plan) → i < length plans → p ≡ get_or plans i p → old ≡ front ++ flat_map plan_text (take i plans)
-    → new ≡ old ++ plan_text p → new ≡ front ++ flat_map plan_text (take (i + 1) plans)
-entries_more front old new plans i p within is so_far one =
+pub entries_more : (prefix old new : List ℕ) (plans : List Plan) (i : ℕ) (p : Plan) → i < length plans → p ≡ get_or plans i p → old ≡ prefix ++ flat_map plan_text (take i plans)
+    → new ≡ old ++ plan_text p → new ≡ prefix ++ flat_map plan_text (take (i + 1) plans)
+entries_more prefix old new plans i p within is so_far one =
     let last : take (i + 1) plans ≡ take i plans ++ p ∷ [] = take_more plans i p within ∙ ap (λ (q : Plan). take i plans ++ q ∷ []) (sym is) in
-    one ∙ ap (λ (t : List ℕ). t ++ plan_text p) so_far ∙ flat_map_more plan_text front (take i plans) p ∙ ap (λ (ps : List Plan). front ++ flat_map plan_text ps) (sym last)
+    one ∙ ap (λ (t : List ℕ). t ++ plan_text p) so_far ∙ flat_map_more plan_text prefix (take i plans) p ∙ ap (λ (ps : List Plan). prefix ++ flat_map plan_text ps) (sym last)

@@ -14,7 +14,7 @@ use Rattle.plan_file.specs.declared.fault.Cause.TheVariants.{Short, Magic, Versi
 use Rattle.plan_file.specs.declared.fault.Wrong.{Wrong}
 use Rattle.plan_file.specs.declared.version.Version.{Version}
 use Rattle.plan_file.specs.Reading.{wrong_at}
-use Rattle.plan_file.specs.Spelling.{CanTell, flags_of, limit_of, version_number}
+use Rattle.plan_file.specs.Spelling.{CanExpress, flags_of, limit_of, version_number}
 
 -- a field: its bytes, and the cause where others stand in its place
 pub record Field : Type 0 where
@@ -33,7 +33,7 @@ number_field w cause number = record { bytes = to_be_bytes w number; cause = cau
 abbrev pub text_of : List Field → List ℕ
 text_of fields = flat_map (λ f. f.bytes) fields
 
--- The first fields of some part stand at the front, and no part has after them a next field that stands there too. The
+-- The first fields of some part stand at the start, and no part has after them a next field that stands there too. The
 -- fault is at this next field: it is not whole, or else it has the cause of the field.
 pub record IsFirstBad {Part : Type 0} (fits : Part → Type 0) (fields_of : Part → List Field) (bytes : List ℕ) (w : Wrong) : Type 0 where
   pub part : Part
@@ -66,7 +66,7 @@ abbrev pub start_fields : Start → List Field
 start_fields s = byte_field Flags (flags_of s.fold s.profile) ∷ number_field w16 Count s.count ∷ []
 
 pub record FitsStart (version : Version) (s : Start) : Type 0 where
-  pub profile : CanTell version s.profile
+  pub profile : CanExpress version s.profile
   pub some : 1 ≤ s.count
   pub few : s.count ≤ limit_of version
 
@@ -85,7 +85,7 @@ pub record FitsList (version : Version) (profile : Profile) (l : Literals) : Typ
   pub normal : IsNormal l
   pub some : 1 ≤ length l.texts
   pub few : length l.texts ≤ limit_of version
-  pub can : CanTell version profile
+  pub can : CanExpress version profile
 
 -- a certificate: the number of its runs, their ends, the cost, and the potentials
 abbrev pub certificate_fields : CertificateParts → List Field

@@ -28,7 +28,7 @@ use Rattle.plan_file.specs.Spelling.{head_text, literal_text, literals_text, pla
 abbrev pub IsFull : ℕ → List ℕ → Wrong → Type 0
 IsFull room bytes w = (room ≡ 0) × (w ≡ wrong_at (if nat_lt (length bytes) 2 then Short else Literal) bytes)
 
--- a whole literal stands at the front, with a letter that is not folded: the first one is wrong
+-- a whole literal stands at the start, with a letter that is not folded: the first one is wrong
 pub record IsUnfolded (fold : Fold) (room : ℕ) (bytes : List ℕ) (w : Wrong) : Type 0 where
   pub text : List ℕ
   pub rest : List ℕ
@@ -37,7 +37,7 @@ pub record IsUnfolded (fold : Fold) (room : ℕ) (bytes : List ℕ) (w : Wrong) 
   pub unfolded : folded_len fold text < length text
   pub wrong_is : w ≡ wrong_at Literal (drop (folded_len fold text) text ++ rest)
 
--- a whole literal stands at the front, folded, but not after the one before it: its length is wrong
+-- a whole literal stands at the start, folded, but not after the one before it: its length is wrong
 pub record IsOutOfOrder (fold : Fold) (room : ℕ) (before bytes : List ℕ) (w : Wrong) : Type 0 where
   pub text : List ℕ
   pub rest : List ℕ
@@ -84,7 +84,7 @@ pub record IsWrongInCertificate (version : Version) (bytes : List ℕ) (w : Wron
   pub bytes_are : bytes ≡ literals_text profile literals ++ rest
   pub wrong : IsFirstBad (FitsCertificate profile (length literals.texts)) certificate_fields rest w
 
--- a whole entry stands at the front, and its certificate fails for a reason: its flags are wrong
+-- a whole entry stands at the start, and its certificate fails for a reason: its flags are wrong
 pub record IsNotCertified (version : Version) (bytes : List ℕ) (w : Wrong) : Type 0 where
   pub plan : Plan
   pub has : HasFields version plan

@@ -28,9 +28,9 @@ limit_of One = 1024
 limit_of Two = 4096
 
 -- version 1 has plans of eight buckets alone
-abbrev pub CanTell : Version → Profile → Type 0
-CanTell One profile = profile ≡ Eight
-CanTell Two profile = ⊤
+abbrev pub CanExpress : Version → Profile → Type 0
+CanExpress One profile = profile ≡ Eight
+CanExpress Two profile = ⊤
 
 -- ---- the fields of an entry
 
@@ -78,7 +78,7 @@ pub record HasFields (version : Version) (p : Plan) : Type 0 where
   pub normal : IsNormal p.literals
   pub some : 1 ≤ length p.literals.texts
   pub few : length p.literals.texts ≤ limit_of version
-  pub profile : CanTell version p.certificate.profile
+  pub profile : CanExpress version p.certificate.profile
   pub some_ends : 1 ≤ length p.certificate.ends
   pub few_ends : length p.certificate.ends ≤ buckets p.certificate.profile
   pub small_ends : All (λ e. e < 2 ^ 16) p.certificate.ends
@@ -120,7 +120,7 @@ pub record IsDraft (version : Version) (p : Plan) : Type 0 where
   pub texts : All (λ t. (1 ≤ length t) × (length t ≤ MAX_LITERAL_LEN)) p.literals.texts
   pub some : 1 ≤ length p.literals.texts
   pub few : length p.literals.texts ≤ limit_of version
-  pub profile : CanTell version p.certificate.profile
+  pub profile : CanExpress version p.certificate.profile
   pub some_ends : 1 ≤ length p.certificate.ends
   pub few_ends : length p.certificate.ends ≤ buckets p.certificate.profile
   pub small_ends : All (λ e. e < 2 ^ 16) p.certificate.ends

@@ -41,7 +41,7 @@ fn first_potentials(alloc: Global, count: usize, bytes: &[u8]) -> Result<(Vec<u6
     Ok((potentials, rest))
 }
 
-/// The certificate at the front, of the profile and for `count` literals, and the bytes after it. `Err` has the first
+/// The certificate at the start, of the profile and for `count` literals, and the bytes after it. `Err` has the first
 /// fault of its fields, or says that memory is short.
 #[tactic(auto, unfolding(crate::specs::Reading::certificate_at))]
 pub fn first_certificate(

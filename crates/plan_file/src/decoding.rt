@@ -20,7 +20,7 @@ use lit_base::LitList;
 use lit_cert::Certificate;
 use std::alloc::Global;
 
-/// The version and the number of plans in the head at the front, and the bytes after it.
+/// The version and the number of plans in the head at the start, and the bytes after it.
 #[tactic(auto, unfolding(crate::specs::Reading::head_at))]
 fn head_of(bytes: &[u8]) -> Result<(Version, u16, &[u8]), Stop>
     ensures { Gives (λ x. ((x.0, x.1), x.2.now)) result (head_at bytes.now) }
@@ -47,7 +47,7 @@ struct Entry {
     certificate: Certificate,
 }
 
-/// The entry at the front, and the bytes after it.
+/// The entry at the start, and the bytes after it.
 #[tactic(auto, unfolding(crate::specs::Reading::plan_at))]
 fn first_entry(alloc: Global, version: Version, bytes: &[u8]) -> Result<(Entry, &[u8]), Stop>
     ensures { Gives (λ x. (record { literals = x.0.list; certificate = x.0.certificate }, x.1.now)) result (plan_at version bytes.now) }
@@ -57,7 +57,7 @@ fn first_entry(alloc: Global, version: Version, bytes: &[u8]) -> Result<(Entry, 
     Ok((Entry { list, certificate }, rest))
 }
 
-/// The plan of the entry at the front, if its certificate holds, and the bytes after it.
+/// The plan of the entry at the start, if its certificate holds, and the bytes after it.
 fn first_plan(alloc: Global, version: Version, bytes: &[u8]) -> Result<(Compiled, &[u8]), Stop>
     ensures found { IfOk result (λ x. IsPlan version x.0 × (bytes.now ≡ plan_text x.0 ++ x.1.now)) }
     ensures wrong { IfErr result (IfWrong (IsWrongEntry version bytes.now)) }

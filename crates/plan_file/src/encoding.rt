@@ -1,7 +1,7 @@
 //! The one text of each list of plans in version 2.
 ghost use Rattle.std.specs.Prelude.{◌≡◌, ◌≢◌, ℕ, List, ◌^◌, ◌<◌, ◌≤◌, ◌++◌, All, length, IfErr, IfOk, IsOkUnless, IsTrue, OnErr, OnOk};
 ghost use Rattle.std.specs.Io.KnownBytes.{Appends};
-ghost use Rattle.byte_io.specs.Transfers.{AppendsPrefix};
+ghost use Rattle.byte_io.specs.Transfers.{AppendsPart};
 ghost use Rattle.lit_base.specs.Literals.{IsNormal};
 ghost use Rattle.lit_base.specs.declared.profile.Profile.TheVariants.{Eight};
 ghost use Rattle.lit_plan.specs.Plans.{Plan};
@@ -150,7 +150,7 @@ pub fn write_plans<W: ByteOut>(alloc: Global, plans: &[Compiled], out: &mut W) -
     ensures ok { OnOk result (ArePlans Two plans.now
         × Appends (W.written out.old) (W.written out.new) (spelling Two plans.now)) }
     ensures err { OnErr result
-        (AppendsPrefix (W.written out.old) (W.written out.new) (spelling Two plans.now)) }
+        (AppendsPart (W.written out.old) (W.written out.new) (spelling Two plans.now)) }
     ensures same { result ≡ Err Fault.OutOfMemory → out.new ≡ out.old }
 
     // `WriteFault` is returned only if a write failed.

@@ -1,4 +1,4 @@
-//! Fields of a plan file, each read from the front of the remaining bytes. A field that is not whole is an error with
+//! Fields of a plan file, each read from the start of the remaining bytes. A field that is not whole is an error with
 //! the cause `Short`.
 ghost use Rattle.std.specs.Prelude.{◌≡◌};
 ghost use Rattle.std.specs.Int.{w16, w32, w64};
@@ -7,7 +7,7 @@ ghost use Rattle.plan_file.specs.Reading.{byte_at, bytes_at, number_at};
 
 use crate::fault::{Cause, Stop, stop_at};
 
-/// The byte at the front, and the bytes after it.
+/// The byte at the start, and the bytes after it.
 pub fn first_byte(bytes: &[u8]) -> Result<(u8, &[u8]), Stop>
     ensures { Gives (λ x. (x.0, x.1.now)) result (byte_at bytes.now) }
 {
@@ -17,7 +17,7 @@ pub fn first_byte(bytes: &[u8]) -> Result<(u8, &[u8]), Stop>
     }
 }
 
-/// The number in two bytes at the front, and the bytes after it.
+/// The number in two bytes at the start, and the bytes after it.
 pub fn first_u16(bytes: &[u8]) -> Result<(u16, &[u8]), Stop>
     ensures { Gives (λ x. (x.0, x.1.now)) result (number_at w16 bytes.now) }
 {
@@ -27,7 +27,7 @@ pub fn first_u16(bytes: &[u8]) -> Result<(u16, &[u8]), Stop>
     }
 }
 
-/// The number in four bytes at the front, and the bytes after it.
+/// The number in four bytes at the start, and the bytes after it.
 pub fn first_u32(bytes: &[u8]) -> Result<(u32, &[u8]), Stop>
     ensures { Gives (λ x. (x.0, x.1.now)) result (number_at w32 bytes.now) }
 {
@@ -37,7 +37,7 @@ pub fn first_u32(bytes: &[u8]) -> Result<(u32, &[u8]), Stop>
     }
 }
 
-/// The number in eight bytes at the front, and the bytes after it.
+/// The number in eight bytes at the start, and the bytes after it.
 pub fn first_u64(bytes: &[u8]) -> Result<(u64, &[u8]), Stop>
     ensures { Gives (λ x. (x.0, x.1.now)) result (number_at w64 bytes.now) }
 {
@@ -47,7 +47,7 @@ pub fn first_u64(bytes: &[u8]) -> Result<(u64, &[u8]), Stop>
     }
 }
 
-/// `count` bytes at the front, and the bytes after them.
+/// `count` bytes at the start, and the bytes after them.
 pub fn first_bytes(count: usize, bytes: &[u8]) -> Result<(&[u8], &[u8]), Stop>
     ensures { Gives (λ x. (x.0.now, x.1.now)) result (bytes_at count bytes.now) }
 {

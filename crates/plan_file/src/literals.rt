@@ -15,7 +15,7 @@ use crate::version::Version;
 use lit_base::{Fold, LitList, MAX_LIST_LEN, MAX_LITERAL_LEN, Profile, RawList, fold_byte};
 use std::alloc::Global;
 
-/// How many bytes at the front are folded.
+/// How many bytes at the start are folded.
 fn folded_len(fold: Fold, text: &[u8]) -> usize
     ensures { result ≡ folded_len_of fold text.now }
 {
@@ -35,7 +35,7 @@ fn is_after(text: &[u8], before: &[u8]) -> bool
     lengths.then(before.cmp(text)).is_lt()
 }
 
-/// The literal at the front, which is after the one before it, and the bytes after it.
+/// The literal at the start, which is after the one before it, and the bytes after it.
 #[tactic(auto, unfolding(crate::specs::Reading::literal_at))]
 fn first_literal<'a>(
     fold: Fold,
@@ -117,7 +117,7 @@ fn list_of(alloc: Global, fold: Fold, literals: RawList) -> Result<LitList, Stop
     LitList::from_normal(alloc, literals, fold).map_err(no_memory)
 }
 
-/// The profile and the literals of the entry at the front, and the bytes after them. `Err` has the first fault of their
+/// The profile and the literals of the entry at the start, and the bytes after them. `Err` has the first fault of their
 /// fields, or says that memory is short.
 #[tactic(auto, unfolding(crate::specs::Reading::list_at))]
 pub fn first_list(

@@ -1,6 +1,6 @@
 //! Plans read from a device.
 ghost use Rattle.std.specs.Prelude.{◌≡◌, ◌≢◌, ℕ, ◌+◌, ◌++◌, ◌^◌, ◌<◌, ◌≤◌, List, length, IsTrue, IfOk, IfErr, IfSome, IsOkAnd, OnOk};
-ghost use Rattle.byte_io.specs.Devices.{Clean, EndsHere, Faulty, Told};
+ghost use Rattle.byte_io.specs.Devices.{Clean, EndsHere, Faulty, IfKnown};
 ghost use Rattle.lit_plan.specs.Plans.{Plan};
 ghost use Rattle.plan_file.specs.declared.fault.Cause.{Cause};
 ghost use Rattle.plan_file.specs.Faults.{IsReadersFault};
@@ -24,7 +24,7 @@ use std::alloc::Global;
 /// After each of them an unknown part of the reader was read.
 pub fn read_plans<R: ByteIn>(alloc: Global, input: &mut R) -> Result<Vec<Compiled>, Fault>
     // A text that is read is a file of the plans returned, and nothing follows it.
-    ensures found { Told (R.coming input.old) (R.coming input.new) (λ old new.
+    ensures found { IfKnown (R.coming input.old) (R.coming input.new) (λ old new.
         IfOk result (λ plans. IsFile old.text plans.items × EndsHere new)) }
     ensures ending { IfSome (R.coming input.old) (λ old. OnOk result (old.ending ≢ Faulty)) }
     ensures few { IfOk result (λ plans. length plans.items ≤ 64) }

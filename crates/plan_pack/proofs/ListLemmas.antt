@@ -1,9 +1,9 @@
 -- The refusal of a list: none where all is within its limits.
 use Rattle.std.proofs.Common.{◌≡◌, ℕ, List, IfErr, Option, None, Some, Ok, Err, Result, ap, refl, subst, sym}
 use Rattle.std.specs.List.{AllZip}
-use Rattle.byte_io.specs.Devices.{Told}
+use Rattle.byte_io.specs.Devices.{IfKnown}
 use Rattle.byte_io.specs.Sources.{AreShort, Sources, after, ask_of, taken_by}
-use Rattle.byte_io.proofs.ToldLemmas.{Told-weaker}
+use Rattle.byte_io.proofs.KnownLemmas.{IfKnown-weaker}
 use Rattle.lit_base.specs.Faults.{RefusedBy}
 use Rattle.lit_base.specs.Literals.{Literals}
 use Rattle.lit_base.specs.NormalForm.{IsPlaceOf}
@@ -28,17 +28,17 @@ placed fold texts list patterns raw places e same p =
 
 -- a list that is had with its places is had
 pub without-places : (reading : Reading) (file : List ℕ) (known mid : Option Sources) (list : Literals) (normal : Normal)
-    → Told known mid (λ s left. AreShort s → (left ≡ after (ask_of file) s) × TakesPlaces reading file (taken_by (ask_of file) s) (Ok (list, normal)))
-    → Told known mid (λ s left. AreShort s → (left ≡ after (ask_of file) s) × TakesList reading file (taken_by (ask_of file) s) (Ok list))
+    → IfKnown known mid (λ s left. AreShort s → (left ≡ after (ask_of file) s) × TakesPlaces reading file (taken_by (ask_of file) s) (Ok (list, normal)))
+    → IfKnown known mid (λ s left. AreShort s → (left ≡ after (ask_of file) s) × TakesList reading file (taken_by (ask_of file) s) (Ok list))
 without-places reading file known mid list normal reads =
-    Told-weaker known mid _ (λ s left. AreShort s → (left ≡ after (ask_of file) s) × TakesList reading file (taken_by (ask_of file) s) (Ok list)) reads (λ s left h short.
+    IfKnown-weaker known mid _ (λ s left. AreShort s → (left ≡ after (ask_of file) s) × TakesList reading file (taken_by (ask_of file) s) (Ok list)) reads (λ s left h short.
     let taken = h short in
     (taken.0, (taken.1.0, taken.1.1)))
 
--- where a list is refused, it is told which pattern is
-pub named-told : {T : Type 0} (reading : Reading) (file : List ℕ) (known left : Option Sources) (r : Result T Stop)
-    → Told known left (λ s l. AreShort s → (l ≡ after (ask_of file) s) × IfErr r (NamesStop reading (taken_by (ask_of file) s)))
-    → IfErr r (λ stop. Told known left (λ s l. AreShort s → NamesStop reading (taken_by (ask_of file) s) stop))
-named-told reading file known left (Ok list) named = tt
-named-told reading file known left (Err stop) named =
-    Told-weaker known left _ (λ s l. AreShort s → NamesStop reading (taken_by (ask_of file) s) stop) named (λ s l h short. (h short).1)
+-- where a list is refused, the refusal names the pattern
+pub named-reported : {T : Type 0} (reading : Reading) (file : List ℕ) (known left : Option Sources) (r : Result T Stop)
+    → IfKnown known left (λ s l. AreShort s → (l ≡ after (ask_of file) s) × IfErr r (NamesStop reading (taken_by (ask_of file) s)))
+    → IfErr r (λ stop. IfKnown known left (λ s l. AreShort s → NamesStop reading (taken_by (ask_of file) s) stop))
+named-reported reading file known left (Ok list) named = tt
+named-reported reading file known left (Err stop) named =
+    IfKnown-weaker known left _ (λ s l. AreShort s → NamesStop reading (taken_by (ask_of file) s) stop) named (λ s l h short. (h short).1)

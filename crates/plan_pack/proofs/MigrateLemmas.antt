@@ -2,9 +2,9 @@
 use Rattle.std.proofs.Common.{◌≡◌, ◌≢◌, ℕ, ◌^◌, ◌<◌, ◌≤◌, Bool, true, false, cond, List, [], ◌∷◌, ◌++◌, length, Option, None, Some, IfSome, Result, Ok, Err, inl, inr, refl, ap, ◌∙◌, subst, arith}
 use Rattle.std.specs.Borrow.{Bor}
 use Rattle.std.specs.Global.{Vec}
-use Rattle.byte_io.specs.Devices.{Clean, Coming, EndsHere, Faulty, Told}
+use Rattle.byte_io.specs.Devices.{Clean, Coming, EndsHere, Faulty, IfKnown}
 use Rattle.byte_io.specs.Sources.{AreShort, Content, Created, IsShort, Sources, after, after_all, ask_of, can_create, coming_of, taken_by}
-use Rattle.byte_io.proofs.ToldLemmas.{Told-then, Told-weaker}
+use Rattle.byte_io.proofs.KnownLemmas.{IfKnown-then, IfKnown-weaker}
 use Rattle.lit_base.specs.Cuts.{IsCut}
 use Rattle.lit_base.specs.Literals.{Literals}
 use Rattle.lit_base.specs.Profiles.{buckets}
@@ -68,7 +68,7 @@ true-if true not = refl
 true-if false not = absurd (not refl)
 
 -- its plans
-pub plans-read : (plans : Vec Plan) (known left : Option Coming) (c : Content) → Told known left (λ x y. IsFile x.text plans.items × EndsHere y) → IfSome known (λ x. x.ending ≢ Faulty)
+pub plans-read : (plans : Vec Plan) (known left : Option Coming) (c : Content) → IfKnown known left (λ x y. IsFile x.text plans.items × EndsHere y) → IfSome known (λ x. x.ending ≢ Faulty)
     → known ≡ Some (coming_of c) → IsSourceOf (Some c) plans.items
 plans-read plans None left c found clean e = (cc)
 plans-read plans (Some x) None c found clean e = absurd found
@@ -106,10 +106,10 @@ moved-left written old new name s left stop (Some made) moved leaves = (leaves.0
 moved-left written old new name s left stop None moved leaves = inr leaves
 
 pub moved-stopped : {O : Type 0} (written : O → Option (List ℕ)) (old new : List Plan) (name : List ℕ) (known left : Option Sources) (stopped : Stop × Option O) → AreMigrated old new
-    → Told known left (λ s l. (l ≡ after (Created name) s) × MakesFile written new name (can_create name s.creatable) (Err stopped))
-    → Told known left (λ s l. Asks {T = Vec ℕ × O} (Err stopped.0) (Created name ∷ []) s l × MakesMigrated written old name s l (Err stopped))
+    → IfKnown known left (λ s l. (l ≡ after (Created name) s) × MakesFile written new name (can_create name s.creatable) (Err stopped))
+    → IfKnown known left (λ s l. Asks {T = Vec ℕ × O} (Err stopped.0) (Created name ∷ []) s l × MakesMigrated written old name s l (Err stopped))
 moved-stopped {O} written old new name known left stopped moved makes =
-    Told-weaker known left _ (λ s l. Asks {T = Vec ℕ × O} (Err stopped.0) (Created name ∷ []) s l × MakesMigrated written old name s l (Err stopped)) makes (λ s l h.
+    IfKnown-weaker known left _ (λ s l. Asks {T = Vec ℕ × O} (Err stopped.0) (Created name ∷ []) s l × MakesMigrated written old name s l (Err stopped)) makes (λ s l h.
     (asks-all {T = Vec ℕ × O} (Err stopped.0) (Created name ∷ []) s l h.0, (h.1.0, moved-left written old new name s l stopped.0 stopped.1 moved h.1.1)))
 
 -- ---- from one to the other
@@ -128,11 +128,11 @@ asks-with (Err OutOfMemory) input output s mid left plans read source asks = rec
 }
 
 pub migrate-had : {O : Type 0} (written : O → Option (List ℕ)) (input output : List ℕ) (known mid left : Option Sources) (plans : Vec Plan) (r : Migration O)
-    → Told known mid (λ s m. AreShort s → (m ≡ after (ask_of input) s) × TakesPlans input (taken_by (ask_of input) s) (Ok plans))
-    → Told mid left (λ m l. Asks (answer_of r) (Created output ∷ []) m l × MakesMigrated written plans.items output m l r)
-    → Told known left (λ s l. AreShort s → UnlessStarved (answer_of r) (LeavesMigrate input output s l) (migrate_asks input output) s l × Migrates written input output s l r)
+    → IfKnown known mid (λ s m. AreShort s → (m ≡ after (ask_of input) s) × TakesPlans input (taken_by (ask_of input) s) (Ok plans))
+    → IfKnown mid left (λ m l. Asks (answer_of r) (Created output ∷ []) m l × MakesMigrated written plans.items output m l r)
+    → IfKnown known left (λ s l. AreShort s → UnlessStarved (answer_of r) (LeavesMigrate input output s l) (migrate_asks input output) s l × Migrates written input output s l r)
 migrate-had written input output known mid left plans r reads makes =
-    Told-then known mid left _ _ (λ s l. AreShort s → UnlessStarved (answer_of r) (LeavesMigrate input output s l) (migrate_asks input output) s l × Migrates written input output s l r) reads makes (λ s m l h g short.
+    IfKnown-then known mid left _ _ (λ s l. AreShort s → UnlessStarved (answer_of r) (LeavesMigrate input output s l) (migrate_asks input output) s l × Migrates written input output s l r) reads makes (λ s m l h g short.
     let taken = h short in (
       asks-with (answer_of r) input output s m l plans.items taken.0 taken.1 g.0,
       Moved plans.items taken.1 (subst (λ x. MakesMigrated written plans.items output x l r) taken.0 g.1),
@@ -146,10 +146,10 @@ asks-without T WriteFault input output s left read takes = absurd takes
 asks-without T OutOfMemory input output s left read takes = record { made = ask_of input ∷ []; rest = Created output ∷ []; parts = refl; after = read }
 
 pub migrate-stopped : {O : Type 0} (written : O → Option (List ℕ)) (input output : List ℕ) (known mid : Option Sources) (stop : Stop)
-    → Told known mid (λ s m. AreShort s → (m ≡ after (ask_of input) s) × TakesPlans input (taken_by (ask_of input) s) (Err stop))
-    → Told known mid (λ s l. AreShort s → UnlessStarved {T = Vec ℕ × O} (Err stop) (LeavesMigrate input output s l) (migrate_asks input output) s l × Migrates {O = O} written input output s l (Err (stop, None)))
+    → IfKnown known mid (λ s m. AreShort s → (m ≡ after (ask_of input) s) × TakesPlans input (taken_by (ask_of input) s) (Err stop))
+    → IfKnown known mid (λ s l. AreShort s → UnlessStarved {T = Vec ℕ × O} (Err stop) (LeavesMigrate input output s l) (migrate_asks input output) s l × Migrates {O = O} written input output s l (Err (stop, None)))
 migrate-stopped {O} written input output known mid stop reads =
-    Told-weaker known mid _ (λ s l. AreShort s → UnlessStarved {T = Vec ℕ × O} (Err stop) (LeavesMigrate input output s l) (migrate_asks input output) s l × Migrates {O = O} written input output s l (Err (stop, None))) reads (λ s l h short.
+    IfKnown-weaker known mid _ (λ s l. AreShort s → UnlessStarved {T = Vec ℕ × O} (Err stop) (LeavesMigrate input output s l) (migrate_asks input output) s l × Migrates {O = O} written input output s l (Err (stop, None))) reads (λ s l h short.
     let taken = h short in (
       asks-without (Vec ℕ × O) stop input output s l taken.0 taken.1,
       Kept stop taken.1 taken.0 refl,

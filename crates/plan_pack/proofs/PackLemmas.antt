@@ -1,17 +1,17 @@
 -- A plan file that is made: from the plans to the file of them.
 use Rattle.std.proofs.Common.{◌≡◌, ℕ, true, false, cond, List, [], ◌∷◌, ◌++◌, Option, None, Some, Ok, Err, inl, inr, ◌-◌, ◌<◌, ◌≤◌, arith, drop, get_or, length, take, refl, sym, ap, subst, ◌∙◌, append_assoc, append-nil, take_all}
 use Rattle.std.specs.Prelude.{String, map, string_bytes}
-use Rattle.byte_io.specs.Devices.{Told}
+use Rattle.byte_io.specs.Devices.{IfKnown}
 use Rattle.byte_io.specs.Sources.{AreShort, Ask, Created, Named, Sources, Standard, after, ask_of, can_create, taken_by}
 use Rattle.byte_io.proofs.OpenerLemmas.{short-after}
-use Rattle.byte_io.proofs.ToldLemmas.{Told-none, Told-then, Told-weaker}
+use Rattle.byte_io.proofs.KnownLemmas.{IfKnown-none, IfKnown-then, IfKnown-weaker}
 use Rattle.lit_plan.specs.Plans.{Plan}
 use Rattle.plan_pack.specs.Asking.{Asks, asks_for_plans, pack_asks, reads_file}
 use Rattle.lit_base.specs.declared.profile.Profile.{Profile}
 use Rattle.plan_pack.specs.Lists.{IsPlanOf, first_message, list_in, search_message, search_messages}
 use Rattle.plan_pack.specs.Messages.{unusable}
 use Rattle.plan_pack.specs.Packing.{Made, MakesFile, MakesPack, Other, Own, PacksFiles, answer_of}
-use Rattle.plan_pack.specs.PlanFiles.{HoldsFront, HoldsPlans}
+use Rattle.plan_pack.specs.PlanFiles.{HoldsPrefix, HoldsPlans}
 use Rattle.plan_pack.specs.Stops.{Explains}
 use Rattle.plan_pack.specs.Taken.{TakesPlan}
 use Rattle.plan_pack.specs.declared.notation.Reading.{Reading}
@@ -43,14 +43,14 @@ pub packs-made : {O : Type 0} (written : O → Option (List ℕ)) (reading : Rea
 packs-made written reading profile before output s left (Ok made) makes =
     (refl, makes.0, record { plans = []; right = refl; holds = subst (λ ps. HoldsPlans ps (written made)) (sym (append-nil before)) makes.1 })
 packs-made written reading profile before output s left (Err (stop, Some made)) makes =
-    (makes.0, (refl, makes.1.0, record { plans = []; right = refl; holds = subst (λ ps. HoldsFront ps (written made)) (sym (append-nil before)) makes.1.1 }))
+    (makes.0, (refl, makes.1.0, record { plans = []; right = refl; holds = subst (λ ps. HoldsPrefix ps (written made)) (sym (append-nil before)) makes.1.1 }))
 packs-made written reading profile before output s left (Err (stop, None)) makes = (makes.0, inr makes.1)
 
 pub pack-made : {O : Type 0} (written : O → Option (List ℕ)) (reading : Reading) (profile : Profile) (before : List Plan) (output : List ℕ) (known left : Option Sources) (r : Made O)
-    → Told known left (λ s l. (l ≡ after (Created output) s) × MakesFile written before output (can_create output s.creatable) r)
-    → Told known left (λ s l. AreShort s → Asks (answer_of r) (asks_for_plans reading [] (Created output) s) s l × MakesPack written reading profile before [] output s l r)
+    → IfKnown known left (λ s l. (l ≡ after (Created output) s) × MakesFile written before output (can_create output s.creatable) r)
+    → IfKnown known left (λ s l. AreShort s → Asks (answer_of r) (asks_for_plans reading [] (Created output) s) s l × MakesPack written reading profile before [] output s l r)
 pack-made written reading profile before output known left r makes =
-    Told-weaker known left _ (λ s l. AreShort s → Asks (answer_of r) (asks_for_plans reading [] (Created output) s) s l × MakesPack written reading profile before [] output s l r) makes (λ s l h short.
+    IfKnown-weaker known left _ (λ s l. AreShort s → Asks (answer_of r) (asks_for_plans reading [] (Created output) s) s l × MakesPack written reading profile before [] output s l r) makes (λ s l h short.
     (asks-all (answer_of r) (Created output ∷ []) s l h.0, packs-made written reading profile before output s l r h.1))
 
 -- ---- one file of patterns, and those behind it
@@ -77,7 +77,7 @@ packs-next written reading profile before file names output s left plan (Err (st
         record {
           plans = plan ∷ makes.1.2.plans;
           right = (right, makes.1.2.right);
-          holds = subst (λ ps. HoldsFront ps (written made)) (append_assoc before (plan ∷ []) makes.1.2.plans) makes.1.2.holds;
+          holds = subst (λ ps. HoldsPrefix ps (written made)) (append_assoc before (plan ∷ []) makes.1.2.plans) makes.1.2.holds;
         },
       ),
     )
@@ -96,11 +96,11 @@ packs-next written reading profile before file names output s left plan (Err (st
 
 -- the plan file of patterns that have a plan
 pub pack-next : {O : Type 0} (written : O → Option (List ℕ)) (reading : Reading) (profile : Profile) (before : List Plan) (file : List ℕ) (names : List (List ℕ)) (output : List ℕ) (known mid left : Option Sources) (plan : Plan) (r : Made O)
-    → Told known mid (λ s m. AreShort s → (m ≡ after (ask_of file) s) × TakesPlan reading profile file (taken_by (ask_of file) s) (Ok plan))
-    → Told mid left (λ m l. AreShort m → Asks (answer_of r) (asks_for_plans reading names (Created output) m) m l × MakesPack written reading profile (before ++ plan ∷ []) names output m l r)
-    → Told known left (λ s l. AreShort s → Asks (answer_of r) (asks_for_plans reading (file ∷ names) (Created output) s) s l × MakesPack written reading profile before (file ∷ names) output s l r)
+    → IfKnown known mid (λ s m. AreShort s → (m ≡ after (ask_of file) s) × TakesPlan reading profile file (taken_by (ask_of file) s) (Ok plan))
+    → IfKnown mid left (λ m l. AreShort m → Asks (answer_of r) (asks_for_plans reading names (Created output) m) m l × MakesPack written reading profile (before ++ plan ∷ []) names output m l r)
+    → IfKnown known left (λ s l. AreShort s → Asks (answer_of r) (asks_for_plans reading (file ∷ names) (Created output) s) s l × MakesPack written reading profile before (file ∷ names) output s l r)
 pack-next written reading profile before file names output known mid left plan r reads makes =
-    Told-then known mid left _ _ (λ s l. AreShort s → Asks (answer_of r) (asks_for_plans reading (file ∷ names) (Created output) s) s l × MakesPack written reading profile before (file ∷ names) output s l r) reads makes (λ s m l h g short.
+    IfKnown-then known mid left _ _ (λ s l. AreShort s → Asks (answer_of r) (asks_for_plans reading (file ∷ names) (Created output) s) s l × MakesPack written reading profile before (file ∷ names) output s l r) reads makes (λ s m l h g short.
     let taken = h short in
     let rest = g (subst AreShort (sym taken.0) (short-after (ask_of file) s short)) in
     let here = subst (λ x. Asks (answer_of r) (asks_for_plans reading names (Created output) x) x l × MakesPack written reading profile (before ++ plan ∷ []) names output x l r) taken.0 rest in
@@ -112,10 +112,10 @@ pack-next written reading profile before file names output known mid left plan r
 
 -- and of patterns that have none
 pub pack-stopped : {O : Type 0} (written : O → Option (List ℕ)) (reading : Reading) (profile : Profile) (before : List Plan) (file : List ℕ) (names : List (List ℕ)) (output : List ℕ) (known mid : Option Sources) (stop : Stop)
-    → Told known mid (λ s left. AreShort s → (left ≡ after (ask_of file) s) × TakesPlan reading profile file (taken_by (ask_of file) s) (Err stop))
-    → Told known mid (λ s left. AreShort s → Asks {T = O} (Err stop) (asks_for_plans reading (file ∷ names) (Created output) s) s left × MakesPack {O = O} written reading profile before (file ∷ names) output s left (Err (stop, None)))
+    → IfKnown known mid (λ s left. AreShort s → (left ≡ after (ask_of file) s) × TakesPlan reading profile file (taken_by (ask_of file) s) (Err stop))
+    → IfKnown known mid (λ s left. AreShort s → Asks {T = O} (Err stop) (asks_for_plans reading (file ∷ names) (Created output) s) s left × MakesPack {O = O} written reading profile before (file ∷ names) output s left (Err (stop, None)))
 pack-stopped {O} written reading profile before file names output known mid stop reads =
-    Told-weaker known mid _ (λ s left. AreShort s → Asks {T = O} (Err stop) (asks_for_plans reading (file ∷ names) (Created output) s) s left × MakesPack {O = O} written reading profile before (file ∷ names) output s left (Err (stop, None))) reads (λ s left h short.
+    IfKnown-weaker known mid _ (λ s left. AreShort s → Asks {T = O} (Err stop) (asks_for_plans reading (file ∷ names) (Created output) s) s left × MakesPack {O = O} written reading profile before (file ∷ names) output s left (Err (stop, None))) reads (λ s left h short.
     let taken = h short in
     let message : Option (List ℕ) = search_message reading file (taken_by (ask_of file) s) in
     let others : Option (List ℕ) = search_messages reading names (after (ask_of file) s) in
@@ -126,19 +126,19 @@ pack-stopped {O} written reading profile before file names output known mid stop
 
 -- memory ran out behind a plan
 pub pack-starved : {O : Type 0} (written : O → Option (List ℕ)) (reading : Reading) (profile : Profile) (before : List Plan) (file : List ℕ) (names : List (List ℕ)) (output : List ℕ) (known mid : Option Sources) (plan : Plan)
-    → Told known mid (λ s left. AreShort s → (left ≡ after (ask_of file) s) × TakesPlan reading profile file (taken_by (ask_of file) s) (Ok plan))
-    → Told known mid (λ s left. AreShort s → Asks {T = O} (Err OutOfMemory) (asks_for_plans reading (file ∷ names) (Created output) s) s left × MakesPack {O = O} written reading profile before (file ∷ names) output s left (Err (OutOfMemory, None)))
+    → IfKnown known mid (λ s left. AreShort s → (left ≡ after (ask_of file) s) × TakesPlan reading profile file (taken_by (ask_of file) s) (Ok plan))
+    → IfKnown known mid (λ s left. AreShort s → Asks {T = O} (Err OutOfMemory) (asks_for_plans reading (file ∷ names) (Created output) s) s left × MakesPack {O = O} written reading profile before (file ∷ names) output s left (Err (OutOfMemory, None)))
 pack-starved {O} written reading profile before file names output known mid plan reads =
     pack-stopped {O = O} written reading profile before file names output known mid OutOfMemory
-    (Told-weaker known mid _ (λ s left. AreShort s → (left ≡ after (ask_of file) s) × TakesPlan reading profile file (taken_by (ask_of file) s) (Err OutOfMemory)) reads (λ s left h short. ((h short).0, tt)))
+    (IfKnown-weaker known mid _ (λ s left. AreShort s → (left ≡ after (ask_of file) s) × TakesPlan reading profile file (taken_by (ask_of file) s) (Err OutOfMemory)) reads (λ s left h short. ((h short).0, tt)))
 
 -- the same of the names of files that have such a list
 pub packs-of : {O : Type 0} (written : O → Option (List ℕ)) (reading : Reading) (profile : Profile) (before : List Plan) (all names : List (List ℕ)) (output : List ℕ) (known left : Option Sources) (r : Made O)
     → all ≡ names
-    → Told known left (λ s l. AreShort s → Asks (answer_of r) (asks_for_plans reading names (Created output) s) s l × MakesPack written reading profile before names output s l r)
-    → Told known left (λ s l. AreShort s → Asks (answer_of r) (asks_for_plans reading all (Created output) s) s l × MakesPack written reading profile before all output s l r)
+    → IfKnown known left (λ s l. AreShort s → Asks (answer_of r) (asks_for_plans reading names (Created output) s) s l × MakesPack written reading profile before names output s l r)
+    → IfKnown known left (λ s l. AreShort s → Asks (answer_of r) (asks_for_plans reading all (Created output) s) s l × MakesPack written reading profile before all output s l r)
 packs-of written reading profile before all names output known left r same makes =
-    subst (λ xs. Told known left (λ s l. AreShort s → Asks (answer_of r) (asks_for_plans reading xs (Created output) s) s l × MakesPack written reading profile before xs output s l r)) (sym same) makes
+    subst (λ xs. IfKnown known left (λ s l. AreShort s → Asks (answer_of r) (asks_for_plans reading xs (Created output) s) s l × MakesPack written reading profile before xs output s l r)) (sym same) makes
 
 -- none is left of them
 pub names-none : {Z : Type 0} (names : List (String Z)) → length names < 1 → map string_bytes names ≡ []
@@ -157,19 +157,19 @@ names-first (name ∷ rest) item default file some is same =
 
 pub pack-own : {O : Type 0} (written : O → Option (List ℕ)) (reading : Reading) (profile : Profile) (names : List (List ℕ)) (output : List ℕ) (known : Option Sources) (stop : Stop)
     → reads_file names output ≡ true → Explains stop (Some (unusable output))
-    → Told known known (λ s l. AreShort s → Asks {T = O} (Err stop) (pack_asks reading names output s) s l × PacksFiles {O = O} written reading profile names output s l (Err (stop, None)))
+    → IfKnown known known (λ s l. AreShort s → Asks {T = O} (Err stop) (pack_asks reading names output s) s l × PacksFiles {O = O} written reading profile names output s l (Err (stop, None)))
 pack-own {O} written reading profile names output known stop own why =
-    Told-none known (λ s l. AreShort s → Asks {T = O} (Err stop) (pack_asks reading names output s) s l × PacksFiles {O = O} written reading profile names output s l (Err (stop, None))) (λ s short. (
+    IfKnown-none known (λ s l. AreShort s → Asks {T = O} (Err stop) (pack_asks reading names output s) s l × PacksFiles {O = O} written reading profile names output s l (Err (stop, None))) (λ s short. (
       subst (λ b. Asks {T = O} (Err stop) (cond b [] (asks_for_plans reading names (Created output) s)) s s) (sym own) (asks-all {T = O} (Err stop) [] s s refl),
       Own stop own why refl refl,
     ))
 
 pub pack-other : {O : Type 0} (written : O → Option (List ℕ)) (reading : Reading) (profile : Profile) (names : List (List ℕ)) (output : List ℕ) (known left : Option Sources) (r : Made O)
     → reads_file names output ≡ false
-    → Told known left (λ s l. AreShort s → Asks (answer_of r) (asks_for_plans reading names (Created output) s) s l × MakesPack written reading profile [] names output s l r)
-    → Told known left (λ s l. AreShort s → Asks (answer_of r) (pack_asks reading names output s) s l × PacksFiles written reading profile names output s l r)
+    → IfKnown known left (λ s l. AreShort s → Asks (answer_of r) (asks_for_plans reading names (Created output) s) s l × MakesPack written reading profile [] names output s l r)
+    → IfKnown known left (λ s l. AreShort s → Asks (answer_of r) (pack_asks reading names output s) s l × PacksFiles written reading profile names output s l r)
 pack-other written reading profile names output known left r other makes =
-    Told-weaker known left _ (λ s l. AreShort s → Asks (answer_of r) (pack_asks reading names output s) s l × PacksFiles written reading profile names output s l r) makes (λ s l h short.
+    IfKnown-weaker known left _ (λ s l. AreShort s → Asks (answer_of r) (pack_asks reading names output s) s l × PacksFiles written reading profile names output s l r) makes (λ s l h short.
     let p = h short in (
       subst (λ b. Asks (answer_of r) (cond b [] (asks_for_plans reading names (Created output) s)) s l) (sym other) p.0,
       Other other p.1,

@@ -1,7 +1,7 @@
 -- The files that are asked for, in order, where a plan file is made.
 use Rattle.std.specs.Prelude.{◌≡◌, ℕ, Bool, true, false, List, [], ◌∷◌, codes, if◌then◌else◌, is_some, Result, Ok, Err}
 use Rattle.std.specs.Str.{bytes_eq}
-use Rattle.byte_io.specs.Sources.{Ask, Created, Sources, after, after_all, ask_of, taken_by, AsksFront}
+use Rattle.byte_io.specs.Sources.{Ask, Created, Sources, after, after_all, ask_of, taken_by, AsksPrefix}
 use Rattle.plan_pack.specs.Lists.{search_message}
 use Rattle.plan_pack.specs.Migrated.{IsNoPlanFile, IsSourceOf}
 use Rattle.plan_pack.specs.declared.notation.Reading.{Reading}
@@ -39,12 +39,12 @@ pub data LeavesMigrate (input output : List ℕ) (s left : Sources) : Type 0 whe
   WithPlans : (plans : List Plan) → IsSourceOf (taken_by (ask_of input) s) plans → left ≡ after_all (migrate_asks input output) s
       → LeavesMigrate input output s left
 
--- this holds, unless memory ran out: then some of the asks were made, from their front
+-- this holds, unless memory ran out: then some of the asks were made, from their start
 abbrev pub UnlessStarved : {T : Type 0} → Result T Stop → Type 0 → List Ask → Sources → Sources → Type 0
 UnlessStarved (Ok _) P all s left = P
 UnlessStarved (Err (Refused refusal)) P all s left = P
 UnlessStarved (Err WriteFault) P all s left = P
-UnlessStarved (Err OutOfMemory) P all s left = AsksFront all s left
+UnlessStarved (Err OutOfMemory) P all s left = AsksPrefix all s left
 
 -- all asks were made, unless memory ran out
 abbrev pub Asks : {T : Type 0} → Result T Stop → List Ask → Sources → Sources → Type 0

@@ -5,17 +5,17 @@ use Rattle.byte_io.specs.Sources.{Sources, after, ask_of, can_create, taken_by}
 use Rattle.lit_plan.specs.Plans.{Plan}
 use Rattle.plan_pack.specs.Messages.{unusable}
 use Rattle.plan_pack.specs.Migrated.{AreMigrated, IsSourceOf, migrated_lines}
-use Rattle.plan_pack.specs.PlanFiles.{HoldsFront, HoldsPlans}
+use Rattle.plan_pack.specs.PlanFiles.{HoldsPrefix, HoldsPlans}
 use Rattle.plan_pack.specs.Stops.{Explains}
 use Rattle.plan_pack.specs.Taken.{TakesPlans}
 use Rattle.plan_pack.specs.declared.stop.Stop.{Stop}
 use Rattle.plan_pack.specs.declared.stop.Stop.TheVariants.{OutOfMemory}
 
--- what a stop leaves of a file for the migrated plans: it was made, where it can be, and holds a front; or it was not asked for,
+-- what a stop leaves of a file for the migrated plans: it was made, where it can be, and holds a prefix; or it was not asked for,
 -- since memory ran out before, or cannot be made
 abbrev pub LeavesMigrated : {O : Type 0} → (O → Option (List ℕ)) → List Plan → List ℕ → Sources → Sources → Stop → Option O → Type 0
 LeavesMigrated written old name s left stop (Some made) =
-    (can_create name s.creatable ≡ true) × (new : List Plan) × AreMigrated old new × HoldsFront new (written made)
+    (can_create name s.creatable ≡ true) × (new : List Plan) × AreMigrated old new × HoldsPrefix new (written made)
 LeavesMigrated written old name s left stop None = ((left ≡ s) × (stop ≡ OutOfMemory)) ⊎ (can_create name s.creatable ≡ false)
 
 -- the answer where migrated plans were to be written: the lines that show them and the file; or a stop, with the file

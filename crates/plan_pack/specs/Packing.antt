@@ -2,7 +2,7 @@
 use Rattle.std.specs.Prelude.{◌≡◌, ◌⊎◌, ℕ, Bool, true, false, List, [], ◌∷◌, ◌++◌, Option, Some, None, Result, Ok, Err}
 use Rattle.std.specs.Io.KnownBytes.{Appends}
 use Rattle.byte_io.specs.Sources.{Sources, after, ask_of, can_create}
-use Rattle.byte_io.specs.Transfers.{AppendsPrefix}
+use Rattle.byte_io.specs.Transfers.{AppendsPart}
 use Rattle.lit_plan.specs.Plans.{Plan}
 use Rattle.plan_pack.specs.Asking.{reads_file}
 use Rattle.lit_base.specs.declared.profile.Profile.{Profile}
@@ -10,16 +10,16 @@ use Rattle.plan_file.specs.Spelling.{ArePlans, spelling}
 use Rattle.plan_file.specs.declared.version.Version.TheVariants.{Two}
 use Rattle.plan_pack.specs.Lists.{ArePlansOf, first_message, search_messages}
 use Rattle.plan_pack.specs.Messages.{unusable}
-use Rattle.plan_pack.specs.PlanFiles.{HoldsFront, HoldsPlans}
+use Rattle.plan_pack.specs.PlanFiles.{HoldsPrefix, HoldsPlans}
 use Rattle.plan_pack.specs.Stops.{Explains}
 use Rattle.plan_pack.specs.declared.notation.Reading.{Reading}
 use Rattle.plan_pack.specs.declared.stop.Stop.{Stop}
 
--- a device was given the plan file of plans, in version 2; or a front of it, and not all, where a write to the file of this
+-- a device was given the plan file of plans, in version 2; or a prefix of it, and not all, where a write to the file of this
 -- name failed or memory ran out
 abbrev pub Packs : List ℕ → List Plan → Result (Unit {0}) Stop → Option (List ℕ) → Option (List ℕ) → Type 0
 Packs name plans (Ok done) old new = ArePlans Two plans × Appends old new (spelling Two plans)
-Packs name plans (Err stop) old new = Explains stop (Some (unusable name)) × AppendsPrefix old new (spelling Two plans)
+Packs name plans (Err stop) old new = Explains stop (Some (unusable name)) × AppendsPart old new (spelling Two plans)
 
 -- the answer on a file that was to be made: the file; or a stop, with the file as far as it was made
 abbrev pub Made : Type 0 → Type 0
@@ -30,9 +30,9 @@ abbrev pub answer_of : {T O : Type 0} → Result T (Stop × Option O) → Result
 answer_of (Ok made) = Ok made
 answer_of (Err stopped) = Err stopped.0
 
--- what a stop leaves of a file for plans: it was made, where it can be, and holds a front; or it cannot be made
+-- what a stop leaves of a file for plans: it was made, where it can be, and holds a prefix; or it cannot be made
 abbrev pub LeavesFile : {O : Type 0} → (O → Option (List ℕ)) → List Plan → Bool → Option O → Type 0
-LeavesFile written plans can (Some made) = (can ≡ true) × HoldsFront plans (written made)
+LeavesFile written plans can (Some made) = (can ≡ true) × HoldsPrefix plans (written made)
 LeavesFile written plans can None = can ≡ false
 
 -- a file of this name was made, where it can be, and holds the plans; or the message, and the file as far as it was
@@ -49,22 +49,22 @@ pub record HoldsPlansOf (reading : Reading) (profile : Profile) (before : List P
   pub right : ArePlansOf reading profile names s plans
   pub holds : HoldsPlans (before ++ plans) written
 
--- a front of it, and not all of it
-pub record HoldsFrontOf (reading : Reading) (profile : Profile) (before : List Plan) (names : List (List ℕ)) (s : Sources) (written : Option (List ℕ)) : Type 0 where
+-- a prefix of it, and not all of it
+pub record HoldsPrefixOf (reading : Reading) (profile : Profile) (before : List Plan) (names : List (List ℕ)) (s : Sources) (written : Option (List ℕ)) : Type 0 where
   pub plans : List Plan
   pub right : ArePlansOf reading profile names s plans
-  pub holds : HoldsFront (before ++ plans) written
+  pub holds : HoldsPrefix (before ++ plans) written
 
 -- files of patterns were asked for, the first at least, and nothing else
 abbrev pub IsBefore : List (List ℕ) → Sources → Sources → Type 0
 IsBefore [] s left = ⊥
 IsBefore (name ∷ names) s left = (left ≡ after (ask_of name) s) ⊎ IsBefore names (after (ask_of name) s) left
 
--- what a stop leaves of the plan file: a front; or nothing, where one of the files gives no plan, or memory ran out there, or it
+-- what a stop leaves of the plan file: a prefix; or nothing, where one of the files gives no plan, or memory ran out there, or it
 -- cannot be made
 abbrev pub LeavesPack : {O : Type 0} → (O → Option (List ℕ)) → Reading → Profile → List Plan → List (List ℕ) → List ℕ → Sources → Sources → Stop → Option O → Type 0
 LeavesPack written reading profile before names output s left stop (Some made) =
-    (search_messages reading names s ≡ None) × (can_create output s.creatable ≡ true) × HoldsFrontOf reading profile before names s (written made)
+    (search_messages reading names s ≡ None) × (can_create output s.creatable ≡ true) × HoldsPrefixOf reading profile before names s (written made)
 LeavesPack written reading profile before names output s left stop None =
     (IsBefore names s left × Explains stop (search_messages reading names s)) ⊎ (can_create output s.creatable ≡ false)
 

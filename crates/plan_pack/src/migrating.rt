@@ -1,6 +1,6 @@
 //! Plans of sixteen buckets in place of others.
 ghost use Rattle.std.specs.Prelude.{◌≡◌, ◌+◌, ◌++◌, ◌∷◌, ◌<◌, ◌≤◌, [], IfErr, IfOk, IfSome, OnOk, false, length, sum_by};
-ghost use Rattle.byte_io.specs.Devices.{Told};
+ghost use Rattle.byte_io.specs.Devices.{IfKnown};
 ghost use Rattle.byte_io.specs.Sources.{AreShort, Created};
 ghost use Rattle.lit_base.specs.declared.fault.Fault.TheVariants.{OutOfMemory as refused_memory};
 ghost use Rattle.lit_base.specs.declared.limits.TheConstants.{MAX_LIST_LEN, MAX_LITERAL_LEN, MAX_LITERALS};
@@ -37,7 +37,7 @@ pub fn migrate_file<'a, F: Files>(
     output: &'a str,
     files: &mut F,
 ) -> Result<(Vec<u8>, F::Output), Unmade<'a, F::Output>>
-    ensures migrated { Told (F.sources files.old) (F.sources files.new) (λ s left. AreShort s
+    ensures migrated { IfKnown (F.sources files.old) (F.sources files.new) (λ s left. AreShort s
         → UnlessStarved (answer_of result) (LeavesMigrate input.now output.now s left) (migrate_asks input.now output.now) s left
         × Migrates F.Output.written input.now output.now s left result) }
 
@@ -61,7 +61,7 @@ fn migrate_to<'a, F: Files>(
     files: &mut F,
 ) -> Result<(Vec<u8>, F::Output), Unmade<'a, F::Output>>
     requires { length plans.now ≤ 64 }
-    ensures migrated { Told (F.sources files.old) (F.sources files.new) (λ s left.
+    ensures migrated { IfKnown (F.sources files.old) (F.sources files.new) (λ s left.
         Asks (answer_of result) (Created name.now ∷ []) s left
         × MakesMigrated F.Output.written plans.now name.now s left result) }
     ensures flag { IfOk result (λ done. F.Output.has_failed done.1 ≡ false) }

@@ -1,6 +1,6 @@
 //! Making a plan file.
 ghost use Rattle.std.specs.Prelude.{◌≡◌, ◌≤◌, ◌+◌, ◌||◌, ◌++◌, ◌∷◌, [], IfErr, IfOk, IfSome, Option, false, length, map, string_bytes};
-ghost use Rattle.byte_io.specs.Devices.{Told};
+ghost use Rattle.byte_io.specs.Devices.{IfKnown};
 ghost use Rattle.byte_io.specs.Sources.{AreShort, Created, after, can_create};
 ghost use Rattle.plan_pack.specs.Asking.{Asks, asks_for_plans, is_file, pack_asks, reads_file};
 ghost use Rattle.plan_pack.specs.Packing.{MakesFile, MakesPack, Packs, PacksFiles, answer_of};
@@ -35,7 +35,7 @@ pub fn stop_of<O: Drop>(unmade: Unmade<'_, O>) -> Stop<'_>
 ///   or not be written to its end.
 /// - `OutOfMemory`, where a growth was refused.
 ///
-/// Beside them stands the file that was made, if one was: it holds a front of the plan file, and not all of
+/// Beside them stands the file that was made, if one was: it holds a prefix of the plan file, and not all of
 /// it, and a write to it failed exactly where its name is refused.
 pub fn pack<'a, F: Files>(
     alloc: Global,
@@ -46,7 +46,7 @@ pub fn pack<'a, F: Files>(
     files: &mut F,
 ) -> Result<F::Output, Unmade<'a, F::Output>>
     requires { length names.now ≤ 64 }
-    ensures packed { Told (F.sources files.old) (F.sources files.new) (λ s left. AreShort s
+    ensures packed { IfKnown (F.sources files.old) (F.sources files.new) (λ s left. AreShort s
         → Asks (answer_of result) (pack_asks reading (map string_bytes names.now) output.now s) s left
         × PacksFiles F.Output.written reading profile (map string_bytes names.now) output.now s left result) }
 
@@ -102,7 +102,7 @@ fn pack_with<'a, F: Files>(
     files: &mut F,
 ) -> Result<F::Output, Unmade<'a, F::Output>>
     requires { length plans.items + length names.now ≤ 64 }
-    ensures packed { Told (F.sources files.old) (F.sources files.new) (λ s left. AreShort s
+    ensures packed { IfKnown (F.sources files.old) (F.sources files.new) (λ s left. AreShort s
         → Asks (answer_of result) (asks_for_plans reading (map string_bytes names.now) (Created output.now) s) s left
         × MakesPack F.Output.written reading profile plans.items (map string_bytes names.now) output.now s left result) }
     ensures flag { IfOk result (λ made. F.Output.has_failed made ≡ false) }
@@ -139,7 +139,7 @@ pub fn make<'a, F: Files>(
     files: &mut F,
 ) -> Result<F::Output, Unmade<'a, F::Output>>
     requires { length plans.now ≤ 64 }
-    ensures made { Told (F.sources files.old) (F.sources files.new) (λ s left.
+    ensures made { IfKnown (F.sources files.old) (F.sources files.new) (λ s left.
         (left ≡ after (Created name.now) s)
         × MakesFile F.Output.written plans.now name.now (can_create name.now s.creatable) result) }
     ensures flag { IfOk result (λ made. F.Output.has_failed made ≡ false) }
@@ -161,7 +161,7 @@ pub fn make<'a, F: Files>(
 /// - `Refused`, with its name, where a write failed.
 /// - `OutOfMemory`, where a growth was refused.
 ///
-/// After both of them a front of the plan file was written, and not all of it.
+/// After both of them a prefix of the plan file was written, and not all of it.
 pub fn pack_into<'a, W: ByteOut>(
     alloc: Global,
     plans: &[Compiled],

@@ -1,6 +1,6 @@
 //! The plan of a file of patterns.
 ghost use Rattle.std.specs.Prelude.{◌≡◌, IfErr, false};
-ghost use Rattle.byte_io.specs.Devices.{Told};
+ghost use Rattle.byte_io.specs.Devices.{IfKnown};
 ghost use Rattle.byte_io.specs.Sources.{AreShort, after, ask_of, taken_by};
 ghost use Rattle.plan_pack.specs.Stops.{is_write};
 ghost use Rattle.plan_pack.specs.Taken.{PlansList, TakesPlan};
@@ -23,7 +23,7 @@ pub fn plan_of<'a, F: Files>(
     file: &'a str,
     files: &mut F,
 ) -> Result<Compiled, Stop<'a>>
-    ensures plan { Told (F.sources files.old) (F.sources files.new) (λ s left. AreShort s
+    ensures plan { IfKnown (F.sources files.old) (F.sources files.new) (λ s left. AreShort s
         → (left ≡ after (ask_of file.now) s) × TakesPlan reading profile file.now (taken_by (ask_of file.now) s) result) }
     ensures unwritten { IfErr result (λ stop. is_write stop ≡ false) }
 {

@@ -1,6 +1,6 @@
 //! Reading a file of patterns, a plan file, and the input of a search.
 ghost use Rattle.std.specs.Prelude.{◌≡◌, ◌≢◌, ◌≤◌, length, IfErr, IfOk, MatchResult, None, Some, false};
-ghost use Rattle.byte_io.specs.Devices.{Told};
+ghost use Rattle.byte_io.specs.Devices.{IfKnown};
 ghost use Rattle.byte_io.specs.Sources.{AreShort, Content, IsShort, after, ask_of, coming_of, taken_by};
 ghost use Rattle.plan_pack.specs.Lists.{ArePlaces, literals_of};
 ghost use Rattle.plan_pack.specs.Notations.{list_refusal, patterns_of};
@@ -24,7 +24,7 @@ pub fn list_of<'a, F: Files>(
     file: &'a str,
     files: &mut F,
 ) -> Result<LitList, Stop<'a>>
-    ensures list { Told (F.sources files.old) (F.sources files.new) (λ s left. AreShort s
+    ensures list { IfKnown (F.sources files.old) (F.sources files.new) (λ s left. AreShort s
         → (left ≡ after (ask_of file.now) s) × TakesList reading file.now (taken_by (ask_of file.now) s) result) }
     ensures unwritten { IfErr result (λ stop. is_write stop ≡ false) }
 {
@@ -41,11 +41,11 @@ pub fn placed_list_of<'a, F: Files>(
     file: &'a str,
     files: &mut F,
 ) -> Result<(LitList, Normal), Stop<'a>>
-    ensures list { Told (F.sources files.old) (F.sources files.new) (λ s left. AreShort s
+    ensures list { IfKnown (F.sources files.old) (F.sources files.new) (λ s left. AreShort s
         → (left ≡ after (ask_of file.now) s) × TakesPlaces reading file.now (taken_by (ask_of file.now) s) result) }
 
-    // Where patterns are refused, it is told which.
-    ensures named { IfErr result (λ stop. Told (F.sources files.old) (F.sources files.new) (λ s left. AreShort s
+    // Where patterns are refused, the refusal names one.
+    ensures named { IfErr result (λ stop. IfKnown (F.sources files.old) (F.sources files.new) (λ s left. AreShort s
         → NamesStop reading (taken_by (ask_of file.now) s) stop)) }
     ensures unwritten { IfErr result (λ stop. is_write stop ≡ false) }
 {
@@ -100,7 +100,7 @@ pub fn plans_of<'a, F: Files>(
     file: &'a str,
     files: &mut F,
 ) -> Result<Vec<Compiled>, Stop<'a>>
-    ensures plans { Told (F.sources files.old) (F.sources files.new) (λ s left. AreShort s
+    ensures plans { IfKnown (F.sources files.old) (F.sources files.new) (λ s left. AreShort s
         → (left ≡ after (ask_of file.now) s) × TakesPlans file.now (taken_by (ask_of file.now) s) result) }
     ensures few { IfOk result (λ plans. length plans.items ≤ 64) }
     ensures unwritten { IfErr result (λ stop. is_write stop ≡ false) }
@@ -139,7 +139,7 @@ pub fn text_of<'a, F: Files>(
     operand: &'a str,
     files: &mut F,
 ) -> Result<Vec<u8>, Stop<'a>>
-    ensures text { Told (F.sources files.old) (F.sources files.new) (λ s left. AreShort s
+    ensures text { IfKnown (F.sources files.old) (F.sources files.new) (λ s left. AreShort s
         → (left ≡ after (ask_of operand.now) s) × TakesText operand.now (taken_by (ask_of operand.now) s) result) }
     ensures unwritten { IfErr result (λ stop. is_write stop ≡ false) }
 {

@@ -3,9 +3,9 @@ use Rattle.std.proofs.Common.{◌≡◌, ℕ, Bool, true, false, List, [], ◌�
 use Rattle.std.specs.Global.{Global, Vec}
 use Rattle.std.specs.Prelude.{String, string_bytes}
 use Rattle.std.proofs.KnownBytes.{Appends-nil}
-use Rattle.byte_io.specs.Devices.{Told}
-use Rattle.byte_io.specs.Sources.{AreShort, Ask, AsksFront, Created, Sources, after, ask_of, can_create, taken_by}
-use Rattle.byte_io.proofs.ToldLemmas.{Told-weaker}
+use Rattle.byte_io.specs.Devices.{IfKnown}
+use Rattle.byte_io.specs.Sources.{AreShort, Ask, AsksPrefix, Created, Sources, after, ask_of, can_create, taken_by}
+use Rattle.byte_io.proofs.KnownLemmas.{IfKnown-weaker}
 use Rattle.lit_plan.specs.Plans.{Plan}
 use Rattle.plan_pack.specs.Asking.{LeavesMigrate, UnlessStarved, WithPlans, WithoutPlans, migrate_asks}
 use Rattle.plan_pack.specs.Messages.{message_on, unusable}
@@ -16,76 +16,76 @@ use Rattle.plan_pack.specs.Taken.{TakesPlans}
 use Rattle.plan_pack.specs.declared.stop.Stop.{Stop}
 use Rattle.plan_pack.specs.declared.stop.Stop.TheVariants.{OutOfMemory, Refused, WriteFault}
 use Rattle.plan_pack.proofs.PackLemmas.{same-creatable}
-use Rattle.plan_run.specs.Answers.{AnswersMigrate, CutShort, Migrated, NoPlans, NotMade, refused_with, told}
-use Rattle.plan_run.specs.Running.{Answers, Tells, Writes}
+use Rattle.plan_run.specs.Answers.{AnswersMigrate, CutShort, Migrated, NoPlans, NotMade, refused_with, printed}
+use Rattle.plan_run.specs.Running.{Answers, Reports, Writes}
 use Rattle.plan_run.specs.declared.request.Request.TheVariants.{Migrate}
 use Rattle.plan_run.specs.declared.status.Status.{Status}
 use Rattle.plan_run.specs.declared.status.Status.TheVariants.{Done}
-use Rattle.plan_run.proofs.AnswerLemmas.{tells-silent, tells-text}
+use Rattle.plan_run.proofs.AnswerLemmas.{reports-silent, reports-text}
 
--- all that was asked for is a front of it
-pub leaves-front : (input output : List ℕ) (s left : Sources) → LeavesMigrate input output s left → AsksFront (migrate_asks input output) s left
-leaves-front input output s left (WithoutPlans refusal none read) = record { made = ask_of input ∷ []; rest = Created output ∷ []; parts = refl; after = read }
-leaves-front input output s left (WithPlans plans source both) = record { made = migrate_asks input output; rest = []; parts = refl; after = both }
+-- all that was asked for is a prefix of it
+pub leaves-prefix : (input output : List ℕ) (s left : Sources) → LeavesMigrate input output s left → AsksPrefix (migrate_asks input output) s left
+leaves-prefix input output s left (WithoutPlans refusal none read) = record { made = ask_of input ∷ []; rest = Created output ∷ []; parts = refl; after = read }
+leaves-prefix input output s left (WithPlans plans source both) = record { made = migrate_asks input output; rest = []; parts = refl; after = both }
 
 leaves-unless : (r : Result Status Stop) (input output : List ℕ) (s left : Sources) → LeavesMigrate input output s left
     → UnlessStarved r (LeavesMigrate input output s left) (migrate_asks input output) s left
 leaves-unless (Ok status) input output s left leaves = leaves
 leaves-unless (Err (Refused refusal)) input output s left leaves = leaves
 leaves-unless (Err WriteFault) input output s left leaves = leaves
-leaves-unless (Err OutOfMemory) input output s left leaves = leaves-front input output s left leaves
+leaves-unless (Err OutOfMemory) input output s left leaves = leaves-prefix input output s left leaves
 
 -- a file can be made under a name as before
 as-before : (input output : List ℕ) (s : Sources) (can : Bool) → can_create output (after (ask_of input) s).creatable ≡ can → can_create output s.creatable ≡ can
 as-before input output s can is = sym (ap (can_create output) (same-creatable (ask_of input) s)) ∙ is
 
 -- the lines of the migrated plans
-tells-moved : {O : Type 0} (written : O → Option (List ℕ)) (has_failed : O → Bool) (input output : List ℕ) (s left : Sources) (lines : Vec ℕ) (made : O) (r : Result Status Stop) (old new : Option (List ℕ))
-    → has_failed made ≡ false → Migrates written input output s left (Ok (lines, made)) → Writes lines.items Done r old new → Tells (AnswersMigrate written has_failed input output s) r old new
-tells-moved written has_failed input output s left lines made r old new whole (Kept stop takes read is) writes = absurd (cc)
-tells-moved written has_failed input output s left lines made r old new whole (Moved plans source makes) writes =
-    tells-text (AnswersMigrate written has_failed input output s) lines.items Done r old new
-    (Migrated plans makes.1 made source makes.2 (as-before input output s true makes.0) makes.3 whole (ap (λ t. told t Done) makes.4)) writes
+reports-moved : {O : Type 0} (written : O → Option (List ℕ)) (has_failed : O → Bool) (input output : List ℕ) (s left : Sources) (lines : Vec ℕ) (made : O) (r : Result Status Stop) (old new : Option (List ℕ))
+    → has_failed made ≡ false → Migrates written input output s left (Ok (lines, made)) → Writes lines.items Done r old new → Reports (AnswersMigrate written has_failed input output s) r old new
+reports-moved written has_failed input output s left lines made r old new whole (Kept stop takes read is) writes = absurd (cc)
+reports-moved written has_failed input output s left lines made r old new whole (Moved plans source makes) writes =
+    reports-text (AnswersMigrate written has_failed input output s) lines.items Done r old new
+    (Migrated plans makes.1 made source makes.2 (as-before input output s true makes.0) makes.3 whole (ap (λ t. printed t Done) makes.4)) writes
 
-pub migrate-told : {O : Type 0} (written : O → Option (List ℕ)) (has_failed : O → Bool) (input output : List ℕ) (known left : Option Sources) (lines : Vec ℕ) (made : O) (r : Result Status Stop) (old new : Option (List ℕ))
+pub migrate-printed : {O : Type 0} (written : O → Option (List ℕ)) (has_failed : O → Bool) (input output : List ℕ) (known left : Option Sources) (lines : Vec ℕ) (made : O) (r : Result Status Stop) (old new : Option (List ℕ))
     → has_failed made ≡ false
-    → Told known left (λ s l. AreShort s → UnlessStarved {T = Vec ℕ × O} (Ok (lines, made)) (LeavesMigrate input output s l) (migrate_asks input output) s l × Migrates written input output s l (Ok (lines, made)))
+    → IfKnown known left (λ s l. AreShort s → UnlessStarved {T = Vec ℕ × O} (Ok (lines, made)) (LeavesMigrate input output s l) (migrate_asks input output) s l × Migrates written input output s l (Ok (lines, made)))
     → Writes lines.items Done r old new
-    → Told known left (λ s l. AreShort s → UnlessStarved r (LeavesMigrate input output s l) (migrate_asks input output) s l × Tells (AnswersMigrate written has_failed input output s) r old new)
-migrate-told written has_failed input output known left lines made r old new whole migrates writes =
-    Told-weaker known left _ (λ s l. AreShort s → UnlessStarved r (LeavesMigrate input output s l) (migrate_asks input output) s l × Tells (AnswersMigrate written has_failed input output s) r old new) migrates (λ s l h short.
+    → IfKnown known left (λ s l. AreShort s → UnlessStarved r (LeavesMigrate input output s l) (migrate_asks input output) s l × Reports (AnswersMigrate written has_failed input output s) r old new)
+migrate-printed written has_failed input output known left lines made r old new whole migrates writes =
+    IfKnown-weaker known left _ (λ s l. AreShort s → UnlessStarved r (LeavesMigrate input output s l) (migrate_asks input output) s l × Reports (AnswersMigrate written has_failed input output s) r old new) migrates (λ s l h short.
     let done = h short in
-    (leaves-unless r input output s l done.0, tells-moved written has_failed input output s l lines made r old new whole done.1 writes))
+    (leaves-unless r input output s l done.0, reports-moved written has_failed input output s l lines made r old new whole done.1 writes))
 
 -- why there are no plans
-tells-kept : {O : Type 0} (written : O → Option (List ℕ)) (has_failed : O → Bool) (stop : Stop) (input output : List ℕ) (s : Sources) (known : Option (List ℕ)) → TakesPlans input (taken_by (ask_of input) s) (Err stop)
-    → Tells (AnswersMigrate written has_failed input output s) (Err stop) known known
-tells-kept written has_failed (Refused refusal) input output s known takes = (NoPlans refusal takes refl, Appends-nil known)
-tells-kept written has_failed WriteFault input output s known takes = absurd takes
-tells-kept written has_failed OutOfMemory input output s known takes = tells-silent (AnswersMigrate written has_failed input output s) known
+reports-kept : {O : Type 0} (written : O → Option (List ℕ)) (has_failed : O → Bool) (stop : Stop) (input output : List ℕ) (s : Sources) (known : Option (List ℕ)) → TakesPlans input (taken_by (ask_of input) s) (Err stop)
+    → Reports (AnswersMigrate written has_failed input output s) (Err stop) known known
+reports-kept written has_failed (Refused refusal) input output s known takes = (NoPlans refusal takes refl, Appends-nil known)
+reports-kept written has_failed WriteFault input output s known takes = absurd takes
+reports-kept written has_failed OutOfMemory input output s known takes = reports-silent (AnswersMigrate written has_failed input output s) known
 
 -- why the other file is not whole
-tells-unmade : {O : Type 0} (written : O → Option (List ℕ)) (has_failed : O → Bool) (stop : Stop) (begun : Option O) (input output : List ℕ) (s left : Sources) (known : Option (List ℕ)) (plans : List Plan)
+reports-unmade : {O : Type 0} (written : O → Option (List ℕ)) (has_failed : O → Bool) (stop : Stop) (begun : Option O) (input output : List ℕ) (s left : Sources) (known : Option (List ℕ)) (plans : List Plan)
     → IsSourceOf (taken_by (ask_of input) s) plans → Explains stop (Some (unusable output)) → LeavesMigrated written plans output (after (ask_of input) s) left stop begun
-    → IfSome begun (λ made. has_failed made ≡ is_refusal stop) → Tells (AnswersMigrate written has_failed input output s) (Err stop) known known
-tells-unmade written has_failed (Refused refusal) (Some made) input output s left known plans source e leaves broken =
+    → IfSome begun (λ made. has_failed made ≡ is_refusal stop) → Reports (AnswersMigrate written has_failed input output s) (Err stop) known known
+reports-unmade written has_failed (Refused refusal) (Some made) input output s left known plans source e leaves broken =
     let same : message_on refusal ≡ unusable output = (cc) in
     (CutShort plans leaves.1 made source leaves.2 (as-before input output s true leaves.0) leaves.3 broken (ap refused_with same), Appends-nil known)
-tells-unmade written has_failed (Refused refusal) None input output s left known plans source e (inl kept) broken = absurd (cc)
-tells-unmade written has_failed (Refused refusal) None input output s left known plans source e (inr cannot) broken =
+reports-unmade written has_failed (Refused refusal) None input output s left known plans source e (inl kept) broken = absurd (cc)
+reports-unmade written has_failed (Refused refusal) None input output s left known plans source e (inr cannot) broken =
     let same : message_on refusal ≡ unusable output = (cc) in
     (NotMade plans source (as-before input output s false cannot) (ap refused_with same), Appends-nil known)
-tells-unmade written has_failed WriteFault begun input output s left known plans source e leaves broken = absurd e
-tells-unmade written has_failed OutOfMemory begun input output s left known plans source e leaves broken = tells-silent (AnswersMigrate written has_failed input output s) known
+reports-unmade written has_failed WriteFault begun input output s left known plans source e leaves broken = absurd e
+reports-unmade written has_failed OutOfMemory begun input output s left known plans source e leaves broken = reports-silent (AnswersMigrate written has_failed input output s) known
 
-tells-stopped : {O : Type 0} (written : O → Option (List ℕ)) (has_failed : O → Bool) (input output : List ℕ) (s left : Sources) (stopped : Stop × Option O) (known : Option (List ℕ))
+reports-stopped : {O : Type 0} (written : O → Option (List ℕ)) (has_failed : O → Bool) (input output : List ℕ) (s left : Sources) (stopped : Stop × Option O) (known : Option (List ℕ))
     → IfSome stopped.1 (λ made. has_failed made ≡ is_refusal stopped.0)
-    → Migrates written input output s left (Err stopped) → Tells (AnswersMigrate written has_failed input output s) (Err stopped.0) known known
-tells-stopped written has_failed input output s left stopped known broken (Kept stop takes read is) =
+    → Migrates written input output s left (Err stopped) → Reports (AnswersMigrate written has_failed input output s) (Err stopped.0) known known
+reports-stopped written has_failed input output s left stopped known broken (Kept stop takes read is) =
     let same : stop ≡ stopped.0 = (cc) in
-    subst (λ x. Tells (AnswersMigrate written has_failed input output s) (Err x) known known) same (tells-kept written has_failed stop input output s known takes)
-tells-stopped written has_failed input output s left stopped known broken (Moved plans source makes) =
-    tells-unmade written has_failed stopped.0 stopped.1 input output s left known plans source makes.0 makes.1 broken
+    subst (λ x. Reports (AnswersMigrate written has_failed input output s) (Err x) known known) same (reports-kept written has_failed stop input output s known takes)
+reports-stopped written has_failed input output s left stopped known broken (Moved plans source makes) =
+    reports-unmade written has_failed stopped.0 stopped.1 input output s left known plans source makes.0 makes.1 broken
 
 -- what holds of a stop holds of it in any answer
 unstarved : (T U P : Type 0) (all : List Ask) (s left : Sources) (stop : Stop) → UnlessStarved {T = T} (Err stop) P all s left → UnlessStarved {T = U} (Err stop) P all s left
@@ -93,28 +93,28 @@ unstarved T U P all s left (Refused refusal) asks = asks
 unstarved T U P all s left WriteFault asks = asks
 unstarved T U P all s left OutOfMemory asks = asks
 
-pub migrate-untold : {O : Type 0} (written : O → Option (List ℕ)) (has_failed : O → Bool) (input output : List ℕ) (known left : Option Sources) (stopped : Stop × Option O) (stop : Stop) (out : Option (List ℕ)) → stop ≡ stopped.0
+pub migrate-unwritten : {O : Type 0} (written : O → Option (List ℕ)) (has_failed : O → Bool) (input output : List ℕ) (known left : Option Sources) (stopped : Stop × Option O) (stop : Stop) (out : Option (List ℕ)) → stop ≡ stopped.0
     → IfSome stopped.1 (λ made. has_failed made ≡ is_refusal stopped.0)
-    → Told known left (λ s l. AreShort s → UnlessStarved {T = Vec ℕ × O} (Err stopped.0) (LeavesMigrate input output s l) (migrate_asks input output) s l × Migrates written input output s l (Err stopped))
-    → Told known left (λ s l. AreShort s → UnlessStarved {T = Status} (Err stop) (LeavesMigrate input output s l) (migrate_asks input output) s l × Tells (AnswersMigrate written has_failed input output s) (Err stop) out out)
-migrate-untold {O} written has_failed input output known left stopped stop out same broken migrates =
-    Told-weaker known left _ (λ s l. AreShort s → UnlessStarved {T = Status} (Err stop) (LeavesMigrate input output s l) (migrate_asks input output) s l × Tells (AnswersMigrate written has_failed input output s) (Err stop) out out) migrates (λ s l h short.
+    → IfKnown known left (λ s l. AreShort s → UnlessStarved {T = Vec ℕ × O} (Err stopped.0) (LeavesMigrate input output s l) (migrate_asks input output) s l × Migrates written input output s l (Err stopped))
+    → IfKnown known left (λ s l. AreShort s → UnlessStarved {T = Status} (Err stop) (LeavesMigrate input output s l) (migrate_asks input output) s l × Reports (AnswersMigrate written has_failed input output s) (Err stop) out out)
+migrate-unwritten {O} written has_failed input output known left stopped stop out same broken migrates =
+    IfKnown-weaker known left _ (λ s l. AreShort s → UnlessStarved {T = Status} (Err stop) (LeavesMigrate input output s l) (migrate_asks input output) s l × Reports (AnswersMigrate written has_failed input output s) (Err stop) out out) migrates (λ s l h short.
     let done = h short in (
       subst (λ x. UnlessStarved {T = Status} (Err x) (LeavesMigrate input output s l) (migrate_asks input output) s l) (sym same) (unstarved (Vec ℕ × O) Status (LeavesMigrate input output s l) (migrate_asks input output) s l stopped.0 done.0),
-      subst (λ x. Tells (AnswersMigrate written has_failed input output s) (Err x) out out) (sym same) (tells-stopped written has_failed input output s l stopped out broken done.1),
+      subst (λ x. Reports (AnswersMigrate written has_failed input output s) (Err x) out out) (sym same) (reports-stopped written has_failed input output s l stopped out broken done.1),
     ))
 
 -- the answer and the asks are right for the request
 pub migrate-answers : {O : Type 0} (written : O → Option (List ℕ)) (has_failed : O → Bool) (input output : String Global) (from to : List ℕ) (known left : Option Sources) (r : Result Status Stop) (old new : Option (List ℕ))
     → from ≡ string_bytes input → to ≡ string_bytes output
-    → Told known left (λ s l. AreShort s → UnlessStarved r (LeavesMigrate from to s l) (migrate_asks from to) s l × Tells (AnswersMigrate written has_failed from to s) r old new)
-    → Told known left (λ s l. AreShort s → Answers written has_failed (Migrate input output) s l r old new)
+    → IfKnown known left (λ s l. AreShort s → UnlessStarved r (LeavesMigrate from to s l) (migrate_asks from to) s l × Reports (AnswersMigrate written has_failed from to s) r old new)
+    → IfKnown known left (λ s l. AreShort s → Answers written has_failed (Migrate input output) s l r old new)
 migrate-answers written has_failed input output from to known left r old new here there answers =
-    Told-weaker known left _ (λ s l. AreShort s → Answers written has_failed (Migrate input output) s l r old new) answers (λ s l h short.
+    IfKnown-weaker known left _ (λ s l. AreShort s → Answers written has_failed (Migrate input output) s l r old new) answers (λ s l h short.
     let t = h short in
     let asks = subst (λ y. UnlessStarved r (LeavesMigrate from y s l) (migrate_asks from y) s l) there t.0 in
-    let tells = subst (λ y. Tells (AnswersMigrate written has_failed from y s) r old new) there t.1 in
+    let reports = subst (λ y. Reports (AnswersMigrate written has_failed from y s) r old new) there t.1 in
     record {
       asks = subst (λ x. UnlessStarved r (LeavesMigrate x (string_bytes output) s l) (migrate_asks x (string_bytes output)) s l) here asks;
-      tells = subst (λ x. Tells (AnswersMigrate written has_failed x (string_bytes output) s) r old new) here tells;
+      reports = subst (λ x. Reports (AnswersMigrate written has_failed x (string_bytes output) s) r old new) here reports;
     })

@@ -2,9 +2,9 @@
 use Rattle.std.proofs.Common.{◌≡◌, ℕ, Bool, false, cond, List, [], Option, None, Some, IfSome, Result, Ok, Err, inl, inr, refl, sym, ap, subst, ◌∙◌}
 use Rattle.std.proofs.KnownBytes.{Appends-nil}
 use Rattle.std.specs.Prelude.{map, string_bytes}
-use Rattle.byte_io.specs.Devices.{Told}
+use Rattle.byte_io.specs.Devices.{IfKnown}
 use Rattle.byte_io.specs.Sources.{AreShort, Sources, can_create}
-use Rattle.byte_io.proofs.ToldLemmas.{Told-weaker}
+use Rattle.byte_io.proofs.KnownLemmas.{IfKnown-weaker}
 use Rattle.plan_pack.specs.Asking.{Asks, pack_asks}
 use Rattle.lit_base.specs.declared.profile.Profile.{Profile}
 use Rattle.plan_pack.specs.Lists.{ArePlansOf, first_message, search_messages}
@@ -15,86 +15,86 @@ use Rattle.plan_pack.specs.declared.notation.Reading.{Reading}
 use Rattle.plan_pack.specs.declared.stop.Stop.{Stop}
 use Rattle.plan_pack.specs.declared.stop.Stop.TheVariants.{OutOfMemory, Refused, WriteFault}
 use Rattle.plan_run.specs.Answers.{Answer, AnswersPack, AnswersUnless, Cut, IsPackAnswer, Packed, Unmade, pack_message, refused_with}
-use Rattle.plan_run.specs.Running.{Answers, Tells}
+use Rattle.plan_run.specs.Running.{Answers, Reports}
 use Rattle.plan_run.specs.declared.request.PackRequest.{PackRequest}
 use Rattle.plan_run.specs.declared.request.Request.TheVariants.{Pack}
 use Rattle.plan_run.specs.declared.status.Status.{Status}
 use Rattle.plan_run.specs.declared.status.Status.TheVariants.{Done}
-use Rattle.plan_run.proofs.AnswerLemmas.{asks-any, tells-reason, tells-silent, tells-text, tells-unless}
+use Rattle.plan_run.proofs.AnswerLemmas.{asks-any, reports-reason, reports-silent, reports-text, reports-unless}
 
 -- of a plan file that was made
-tells-packed : {O : Type 0} (written : O → Option (List ℕ)) (has_failed : O → Bool) (reading : Reading) (profile : Profile) (names : List (List ℕ)) (output : List ℕ) (s left : Sources) (made : O) (out : Option (List ℕ))
+reports-packed : {O : Type 0} (written : O → Option (List ℕ)) (has_failed : O → Bool) (reading : Reading) (profile : Profile) (names : List (List ℕ)) (output : List ℕ) (s left : Sources) (made : O) (out : Option (List ℕ))
     → has_failed made ≡ false → PacksFiles written reading profile names output s left (Ok made)
-    → Tells (AnswersPack written has_failed reading profile names output s) (Ok Done) out out
-tells-packed written has_failed reading profile names output s left made out whole (Own stop own why same is) = absurd (cc)
-tells-packed written has_failed reading profile names output s left made out whole (Other other makes) =
+    → Reports (AnswersPack written has_failed reading profile names output s) (Ok Done) out out
+reports-packed written has_failed reading profile names output s left made out whole (Own stop own why same is) = absurd (cc)
+reports-packed written has_failed reading profile names output s left made out whole (Other other makes) =
     let answer = IsPackAnswer written has_failed (ArePlansOf reading profile names s) output (can_create output s.creatable) in
     let none : pack_message reading names output s ≡ None = ap (λ b. cond b (Some (unusable output)) (search_messages reading names s)) other ∙ makes.0 in
-    tells-unless (pack_message reading names output s) answer (Ok Done) out out none
-    (tells-text answer [] Done (Ok Done) out out (Packed makes.2.plans made makes.2.right makes.1 makes.2.holds whole refl) (refl, Appends-nil out))
+    reports-unless (pack_message reading names output s) answer (Ok Done) out out none
+    (reports-text answer [] Done (Ok Done) out out (Packed makes.2.plans made makes.2.right makes.1 makes.2.holds whole refl) (refl, Appends-nil out))
 
-pub pack-told : {O : Type 0} (written : O → Option (List ℕ)) (has_failed : O → Bool) (reading : Reading) (profile : Profile) (names : List (List ℕ)) (output : List ℕ) (known left : Option Sources) (made : O)
+pub pack-printed : {O : Type 0} (written : O → Option (List ℕ)) (has_failed : O → Bool) (reading : Reading) (profile : Profile) (names : List (List ℕ)) (output : List ℕ) (known left : Option Sources) (made : O)
     → has_failed made ≡ false
-    → Told known left (λ s l. AreShort s → Asks {T = O} (Ok made) (pack_asks reading names output s) s l × PacksFiles written reading profile names output s l (Ok made))
-    → Told known left (λ s l. AreShort s → Asks {T = Status} (Ok Done) (pack_asks reading names output s) s l × ((out : Option (List ℕ)) → Tells (AnswersPack written has_failed reading profile names output s) (Ok Done) out out))
-pack-told written has_failed reading profile names output known left made whole packs =
-    Told-weaker known left _ (λ s l. AreShort s → Asks {T = Status} (Ok Done) (pack_asks reading names output s) s l × ((out : Option (List ℕ)) → Tells (AnswersPack written has_failed reading profile names output s) (Ok Done) out out)) packs (λ s l h short.
+    → IfKnown known left (λ s l. AreShort s → Asks {T = O} (Ok made) (pack_asks reading names output s) s l × PacksFiles written reading profile names output s l (Ok made))
+    → IfKnown known left (λ s l. AreShort s → Asks {T = Status} (Ok Done) (pack_asks reading names output s) s l × ((out : Option (List ℕ)) → Reports (AnswersPack written has_failed reading profile names output s) (Ok Done) out out))
+pack-printed written has_failed reading profile names output known left made whole packs =
+    IfKnown-weaker known left _ (λ s l. AreShort s → Asks {T = Status} (Ok Done) (pack_asks reading names output s) s l × ((out : Option (List ℕ)) → Reports (AnswersPack written has_failed reading profile names output s) (Ok Done) out out)) packs (λ s l h short.
     let p = h short in
-    (p.0, λ out. tells-packed written has_failed reading profile names output s l made out whole p.1))
+    (p.0, λ out. reports-packed written has_failed reading profile names output s l made out whole p.1))
 
 -- what is answered where this is the message on the files of patterns
-abbrev IsToldOf : {O : Type 0} → (O → Option (List ℕ)) → (O → Bool) → Reading → Profile → List (List ℕ) → List ℕ → Sources → Option (List ℕ) → Answer → Type 0
-IsToldOf written has_failed reading profile names output s message =
+abbrev IsReportedOf : {O : Type 0} → (O → Option (List ℕ)) → (O → Bool) → Reading → Profile → List (List ℕ) → List ℕ → Sources → Option (List ℕ) → Answer → Type 0
+IsReportedOf written has_failed reading profile names output s message =
     AnswersUnless message (IsPackAnswer written has_failed (ArePlansOf reading profile names s) output (can_create output s.creatable))
 
 -- a file that is not made, or not whole, has its message where nothing comes before
-tells-cut : {O : Type 0} (written : O → Option (List ℕ)) (has_failed : O → Bool) (reading : Reading) (profile : Profile) (names : List (List ℕ)) (output : List ℕ) (s left : Sources) (message : Option (List ℕ)) (stop : Stop) (begun : Option O) (out : Option (List ℕ))
+reports-cut : {O : Type 0} (written : O → Option (List ℕ)) (has_failed : O → Bool) (reading : Reading) (profile : Profile) (names : List (List ℕ)) (output : List ℕ) (s left : Sources) (message : Option (List ℕ)) (stop : Stop) (begun : Option O) (out : Option (List ℕ))
     → message ≡ search_messages reading names s → Explains stop (first_message message (Some (unusable output))) → LeavesPack written reading profile [] names output s left stop begun
     → IfSome begun (λ made. has_failed made ≡ is_refusal stop)
-    → Tells (IsToldOf written has_failed reading profile names output s message) (Err stop) out out
-tells-cut written has_failed reading profile names output s left message OutOfMemory begun out same why leaves broken = tells-silent (IsToldOf written has_failed reading profile names output s message) out
-tells-cut written has_failed reading profile names output s left message WriteFault begun out same why leaves broken = absurd why
-tells-cut written has_failed reading profile names output s left (Some text) (Refused refusal) begun out same why leaves broken =
+    → Reports (IsReportedOf written has_failed reading profile names output s message) (Err stop) out out
+reports-cut written has_failed reading profile names output s left message OutOfMemory begun out same why leaves broken = reports-silent (IsReportedOf written has_failed reading profile names output s message) out
+reports-cut written has_failed reading profile names output s left message WriteFault begun out same why leaves broken = absurd why
+reports-cut written has_failed reading profile names output s left (Some text) (Refused refusal) begun out same why leaves broken =
     (ap refused_with (cc), Appends-nil out)
-tells-cut written has_failed reading profile names output s left None (Refused refusal) (Some made) out same why leaves broken =
+reports-cut written has_failed reading profile names output s left None (Refused refusal) (Some made) out same why leaves broken =
     let text : message_on refusal ≡ unusable output = (cc) in
     (Cut leaves.2.plans made leaves.2.right leaves.1 leaves.2.holds broken (ap refused_with text), Appends-nil out)
-tells-cut written has_failed reading profile names output s left None (Refused refusal) None out same why (inl kept) broken = absurd (cc)
-tells-cut written has_failed reading profile names output s left None (Refused refusal) None out same why (inr cannot) broken =
+reports-cut written has_failed reading profile names output s left None (Refused refusal) None out same why (inl kept) broken = absurd (cc)
+reports-cut written has_failed reading profile names output s left None (Refused refusal) None out same why (inr cannot) broken =
     let text : message_on refusal ≡ unusable output = (cc) in
     (Unmade cannot (ap refused_with text), Appends-nil out)
 
-tells-unpacked : {O : Type 0} (written : O → Option (List ℕ)) (has_failed : O → Bool) (reading : Reading) (profile : Profile) (names : List (List ℕ)) (output : List ℕ) (s left : Sources) (stopped : Stop × Option O) (out : Option (List ℕ))
+reports-unpacked : {O : Type 0} (written : O → Option (List ℕ)) (has_failed : O → Bool) (reading : Reading) (profile : Profile) (names : List (List ℕ)) (output : List ℕ) (s left : Sources) (stopped : Stop × Option O) (out : Option (List ℕ))
     → IfSome stopped.1 (λ made. has_failed made ≡ is_refusal stopped.0) → PacksFiles written reading profile names output s left (Err stopped)
-    → Tells (AnswersPack written has_failed reading profile names output s) (Err stopped.0) out out
-tells-unpacked written has_failed reading profile names output s left stopped out broken (Own stop own why same is) =
+    → Reports (AnswersPack written has_failed reading profile names output s) (Err stopped.0) out out
+reports-unpacked written has_failed reading profile names output s left stopped out broken (Own stop own why same is) =
     let stop_is : stop ≡ stopped.0 = (cc) in
     let message : pack_message reading names output s ≡ Some (unusable output) = ap (λ b. cond b (Some (unusable output)) (search_messages reading names s)) own in
-    subst (λ x. Tells (AnswersPack written has_failed reading profile names output s) (Err x) out out) stop_is
-    (tells-reason (pack_message reading names output s) (IsPackAnswer written has_failed (ArePlansOf reading profile names s) output (can_create output s.creatable)) stop out
+    subst (λ x. Reports (AnswersPack written has_failed reading profile names output s) (Err x) out out) stop_is
+    (reports-reason (pack_message reading names output s) (IsPackAnswer written has_failed (ArePlansOf reading profile names s) output (can_create output s.creatable)) stop out
     (subst (λ m. Explains stop m) (sym message) why))
-tells-unpacked written has_failed reading profile names output s left stopped out broken (Other other makes) =
+reports-unpacked written has_failed reading profile names output s left stopped out broken (Other other makes) =
     let message : pack_message reading names output s ≡ search_messages reading names s = ap (λ b. cond b (Some (unusable output)) (search_messages reading names s)) other in
-    subst (λ m. Tells (IsToldOf written has_failed reading profile names output s m) (Err stopped.0) out out) (sym message)
-    (tells-cut written has_failed reading profile names output s left (search_messages reading names s) stopped.0 stopped.1 out refl makes.0 makes.1 broken)
+    subst (λ m. Reports (IsReportedOf written has_failed reading profile names output s m) (Err stopped.0) out out) (sym message)
+    (reports-cut written has_failed reading profile names output s left (search_messages reading names s) stopped.0 stopped.1 out refl makes.0 makes.1 broken)
 
-pub pack-untold : {O : Type 0} (written : O → Option (List ℕ)) (has_failed : O → Bool) (reading : Reading) (profile : Profile) (names : List (List ℕ)) (output : List ℕ) (known left : Option Sources) (stopped : Stop × Option O) (stop : Stop)
+pub pack-unwritten : {O : Type 0} (written : O → Option (List ℕ)) (has_failed : O → Bool) (reading : Reading) (profile : Profile) (names : List (List ℕ)) (output : List ℕ) (known left : Option Sources) (stopped : Stop × Option O) (stop : Stop)
     → stop ≡ stopped.0 → IfSome stopped.1 (λ made. has_failed made ≡ is_refusal stopped.0)
-    → Told known left (λ s l. AreShort s → Asks {T = O} (Err stopped.0) (pack_asks reading names output s) s l × PacksFiles written reading profile names output s l (Err stopped))
-    → Told known left (λ s l. AreShort s → Asks {T = Status} (Err stop) (pack_asks reading names output s) s l × ((out : Option (List ℕ)) → Tells (AnswersPack written has_failed reading profile names output s) (Err stop) out out))
-pack-untold {O} written has_failed reading profile names output known left stopped stop same broken packs =
-    Told-weaker known left _ (λ s l. AreShort s → Asks {T = Status} (Err stop) (pack_asks reading names output s) s l × ((out : Option (List ℕ)) → Tells (AnswersPack written has_failed reading profile names output s) (Err stop) out out)) packs (λ s l h short.
+    → IfKnown known left (λ s l. AreShort s → Asks {T = O} (Err stopped.0) (pack_asks reading names output s) s l × PacksFiles written reading profile names output s l (Err stopped))
+    → IfKnown known left (λ s l. AreShort s → Asks {T = Status} (Err stop) (pack_asks reading names output s) s l × ((out : Option (List ℕ)) → Reports (AnswersPack written has_failed reading profile names output s) (Err stop) out out))
+pack-unwritten {O} written has_failed reading profile names output known left stopped stop same broken packs =
+    IfKnown-weaker known left _ (λ s l. AreShort s → Asks {T = Status} (Err stop) (pack_asks reading names output s) s l × ((out : Option (List ℕ)) → Reports (AnswersPack written has_failed reading profile names output s) (Err stop) out out)) packs (λ s l h short.
     let p = h short in (
       subst (λ x. Asks {T = Status} (Err x) (pack_asks reading names output s) s l) (sym same) (asks-any O Status (pack_asks reading names output s) s l stopped.0 p.0),
-      λ out. subst (λ x. Tells (AnswersPack written has_failed reading profile names output s) (Err x) out out) (sym same) (tells-unpacked written has_failed reading profile names output s l stopped out broken p.1),
+      λ out. subst (λ x. Reports (AnswersPack written has_failed reading profile names output s) (Err x) out out) (sym same) (reports-unpacked written has_failed reading profile names output s l stopped out broken p.1),
     ))
 
 -- the answer and the asks are right for the request
 pub pack-answers : {O : Type 0} (written : O → Option (List ℕ)) (has_failed : O → Bool) (request : PackRequest) (known left : Option Sources) (r : Result Status Stop) (out : Option (List ℕ))
-    → Told known left (λ s l. AreShort s → Asks r (pack_asks request.reading (map string_bytes request.files.names.items) (string_bytes request.output) s) s l
-    × ((old : Option (List ℕ)) → Tells (AnswersPack written has_failed request.reading request.profile (map string_bytes request.files.names.items) (string_bytes request.output) s) r old old))
-    → Told known left (λ s l. AreShort s → Answers written has_failed (Pack request) s l r out out)
+    → IfKnown known left (λ s l. AreShort s → Asks r (pack_asks request.reading (map string_bytes request.files.names.items) (string_bytes request.output) s) s l
+    × ((old : Option (List ℕ)) → Reports (AnswersPack written has_failed request.reading request.profile (map string_bytes request.files.names.items) (string_bytes request.output) s) r old old))
+    → IfKnown known left (λ s l. AreShort s → Answers written has_failed (Pack request) s l r out out)
 pack-answers written has_failed request known left r out answers =
-    Told-weaker known left _ (λ s l. AreShort s → Answers written has_failed (Pack request) s l r out out) answers (λ s l h short.
+    IfKnown-weaker known left _ (λ s l. AreShort s → Answers written has_failed (Pack request) s l r out out) answers (λ s l h short.
     let t = h short in
-    record { asks = t.0; tells = t.1 out })
+    record { asks = t.0; reports = t.1 out })

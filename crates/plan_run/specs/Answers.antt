@@ -21,7 +21,7 @@ use Rattle.run_planner.specs.FirstCut.{IsFirstCut}
 use Rattle.plan_pack.specs.Lists.{ArePlaces, ArePlansOf, NamesRefused, input_message, list_in, list_message, patterns_in, search_message, search_messages, text_in}
 use Rattle.plan_pack.specs.Messages.{message_on, no_plan, refused, unusable}
 use Rattle.plan_pack.specs.Migrated.{AreMigrated, IsNoPlanFile, IsSourceOf, migrated_lines}
-use Rattle.plan_pack.specs.PlanFiles.{HoldsFront, HoldsPlans}
+use Rattle.plan_pack.specs.PlanFiles.{HoldsPrefix, HoldsPlans}
 use Rattle.plan_pack.specs.declared.notation.Reading.{Reading}
 use Rattle.plan_pack.specs.declared.stop.Refusal.{Refusal}
 use Rattle.plan_pack.specs.declared.stop.Refusal.TheVariants.{NoLiterals}
@@ -38,21 +38,21 @@ pub record Answer : Type 0 where
   pub status : Status
 
 -- a text alone
-abbrev pub told : List ℕ → Status → Answer
-told text status = record { output = text; message = []; status = status }
+abbrev pub printed : List ℕ → Status → Answer
+printed text status = record { output = text; message = []; status = status }
 
 -- a message alone
 abbrev pub refused_with : List ℕ → Answer
 refused_with text = record { output = []; message = text; status = Trouble }
 
--- what is told of a refusal: its message
+-- the answer to a refusal: its message
 abbrev pub refuses : Refusal → Answer
 refuses refusal = refused_with (message_on refusal)
 
 -- where an input is explained: where it is wrong, if the refusal says so; else its message
 abbrev pub wrong_or_message : Option (List ℕ) → Refusal → Answer
 wrong_or_message None refusal = refuses refusal
-wrong_or_message (Some text) refusal = told text Wrong
+wrong_or_message (Some text) refusal = printed text Wrong
 
 abbrev pub where_wrong : Refusal → Answer
 where_wrong refusal = wrong_or_message (wrong_input refusal) refusal
@@ -60,12 +60,12 @@ where_wrong refusal = wrong_or_message (wrong_input refusal) refusal
 -- on a list that is to be planned: its certificate of the profile, or that there is nothing to plan
 pub data IsPlanAnswer (profile : Profile) (list : Literals) (a : Answer) : Type 0 where
   Empty : length list.texts ≡ 0 → a ≡ refused_with (refused 5) → IsPlanAnswer profile list a
-  Planned : (c : CertificateParts) → IsPlanned list profile c → a ≡ told (spelling c) Done → IsPlanAnswer profile list a
+  Planned : (c : CertificateParts) → IsPlanned list profile c → a ≡ printed (spelling c) Done → IsPlanAnswer profile list a
 
 -- on a list and a certificate: that it holds, or the first condition that fails
 pub data IsVerdict (list : Literals) (c : CertificateParts) (a : Answer) : Type 0 where
-  Holds : IsCertified list c → a ≡ told (optimal c.cost) Done → IsVerdict list c a
-  Fails : (reason : Reason) → IsFirstFailure list c reason → a ≡ told (not_certified reason) NotCertified → IsVerdict list c a
+  Holds : IsCertified list c → a ≡ printed (optimal c.cost) Done → IsVerdict list c a
+  Fails : (reason : Reason) → IsFirstFailure list c reason → a ≡ printed (not_certified reason) NotCertified → IsVerdict list c a
 
 -- on what stands under the certificate's name: a message where nothing does, or where reading it fails; the answer on its first
 -- wrong line, where it is no certificate's text; else that on the certificate. Where reading fails, a line is wrong only where
@@ -107,14 +107,14 @@ AnswersCheck reading file certificate s =
     AnswersList reading file (taken_by (ask_of file) s) (λ list. IsCheckAnswer list certificate (certificate_source file certificate s))
 
 -- on a list and a text: the hits of the whole text, with their literals or without; or their number
-pub record AreHitsTold (list : Literals) (count names : Bool) (text : List ℕ) (a : Answer) : Type 0 where
+pub record AreHitsReported (list : Literals) (count names : Bool) (text : List ℕ) (a : Answer) : Type 0 where
   pub hits : List (ℕ × ℕ)
   pub right : IsHits list text hits
-  pub is : a ≡ told (hits_text count names list hits) Done
+  pub is : a ≡ printed (hits_text count names list hits) Done
 
 -- on a list and an input: the message where the input cannot be read; else its hits
 abbrev pub AnswersInput : Literals → Bool → Bool → List ℕ → Option Content → Answer → Type 0
-AnswersInput list count names name source = AnswersUnless (input_message name source) (AreHitsTold list count names (text_in source))
+AnswersInput list count names name source = AnswersUnless (input_message name source) (AreHitsReported list count names (text_in source))
 
 -- the input, once there is a plan
 abbrev pub input_source : List ℕ → List ℕ → Sources → Option Content
@@ -126,13 +126,13 @@ AnswersScan reading count names file input s =
     AnswersUnless (search_message reading file (taken_by (ask_of file) s))
     (AnswersInput (list_in reading (taken_by (ask_of file) s)) count names input (input_source file input s))
 
--- on plans and the name of their file, which can be made or not: nothing is told where it was made and holds them; the message
--- where it cannot be made, or where a write to it failed, so that it holds a front alone
+-- on plans and the name of their file, which can be made or not: nothing is printed where it was made and holds them; the message
+-- where it cannot be made, or where a write to it failed, so that it holds a prefix alone
 pub data IsPackAnswer {O : Type 0} (written : O → Option (List ℕ)) (has_failed : O → Bool) (P : List plan.Plan → Type 0) (name : List ℕ) (can : Bool) (a : Answer) : Type 0 where
   Packed : (plans : List plan.Plan) (made : O) → P plans → can ≡ true → HoldsPlans plans (written made) → has_failed made ≡ false
-      → a ≡ told [] Done → IsPackAnswer written has_failed P name can a
+      → a ≡ printed [] Done → IsPackAnswer written has_failed P name can a
   Unmade : can ≡ false → a ≡ refused_with (unusable name) → IsPackAnswer written has_failed P name can a
-  Cut : (plans : List plan.Plan) (made : O) → P plans → can ≡ true → HoldsFront plans (written made) → has_failed made ≡ true
+  Cut : (plans : List plan.Plan) (made : O) → P plans → can ≡ true → HoldsPrefix plans (written made) → has_failed made ≡ true
       → a ≡ refused_with (unusable name) → IsPackAnswer written has_failed P name can a
 
 -- the message where no plan file is made: it is one of the files of patterns; or one of these gives no plan
@@ -155,7 +155,7 @@ pub record IsExplained (profile : Profile) (list : Literals) (svg : Bool) (patte
   pub places : List (Option ℕ)
   pub first : IsFirstCut (run_cost (lengths list)) (buckets profile) (length list.texts) ends
   pub placed : ArePlaces list patterns places
-  pub is : a ≡ told (explained profile svg list ends places) Done
+  pub is : a ≡ printed (explained profile svg list ends places) Done
 
 -- likewise, or that there is nothing to explain
 pub data IsExplainAnswer (profile : Profile) (list : Literals) (svg : Bool) (patterns : List (List ℕ)) (a : Answer) : Type 0 where
@@ -176,7 +176,7 @@ pub data ExplainsList (reading : Reading) (profile : Profile) (svg : Bool) (name
 abbrev pub AnswersExplain : Reading → Profile → Bool → List ℕ → Sources → Answer → Type 0
 AnswersExplain reading profile svg file s a = ExplainsList reading profile svg file (taken_by (ask_of file) s) a
 
--- on the plans of a file of this name: that it has none of this number, or what is told of the one
+-- on the plans of a file of this name: that it has none of this number, or the answer about the one
 pub data IsPlanAnswerAt (P : plan.Plan → Answer → Type 0) (name : List ℕ) (place : ℕ) (plans : List plan.Plan) (a : Answer) : Type 0 where
   NoneThere : slice_get plans place ≡ None → a ≡ refused_with (no_plan name place) → IsPlanAnswerAt P name place plans a
   OneThere : (p : plan.Plan) → slice_get plans place ≡ Some p → P p a → IsPlanAnswerAt P name place plans a
@@ -192,34 +192,34 @@ AnswersCheckPlan file place s a = AnswersPlanAt refuses (λ p. IsVerdict p.liter
 
 -- and to explain it
 abbrev pub IsPlanExplained : Bool → plan.Plan → Answer → Type 0
-IsPlanExplained svg p a = a ≡ told (explained p.certificate.profile svg p.literals p.certificate.ends []) Done
+IsPlanExplained svg p a = a ≡ printed (explained p.certificate.profile svg p.literals p.certificate.ends []) Done
 
 abbrev pub AnswersExplainPlan : Bool → List ℕ → ℕ → Sources → Answer → Type 0
 AnswersExplainPlan svg file place s a = AnswersPlanAt where_wrong (IsPlanExplained svg) file place (taken_by (ask_of file) s) a
 
 -- to explain a certificate
 abbrev pub wrong_at_line : ℕ → Answer
-wrong_at_line line = told (wrong_line line) Wrong
+wrong_at_line line = printed (wrong_line line) Wrong
 
-abbrev pub IsCertificateTold : CertificateParts → Answer → Type 0
-IsCertificateTold c a = a ≡ told (certificate_head (length c.ends) c.cost) Done
+abbrev pub IsCertificateReported : CertificateParts → Answer → Type 0
+IsCertificateReported c a = a ≡ printed (certificate_head (length c.ends) c.cost) Done
 
 abbrev pub AnswersExplainCertificate : List ℕ → Sources → Answer → Type 0
-AnswersExplainCertificate name s a = IsCertificateAnswer wrong_at_line IsCertificateTold name (taken_by (Named name) s) a
+AnswersExplainCertificate name s a = IsCertificateAnswer wrong_at_line IsCertificateReported name (taken_by (Named name) s) a
 
 -- to migrate the plans of one file to another: the message where there are none; what each plan cost and costs, where the other
 -- file was made and holds the new plans; the message where it cannot be made, or where a write to it failed, so that it holds a
--- front alone
+-- prefix alone
 pub data AnswersMigrate {O : Type 0} (written : O → Option (List ℕ)) (has_failed : O → Bool) (input output : List ℕ) (s : Sources) (a : Answer) : Type 0 where
   NoPlans : (refusal : Refusal) → IsNoPlanFile input (taken_by (ask_of input) s) refusal → a ≡ refuses refusal → AnswersMigrate written has_failed input output s a
   NotMade : (old : List plan.Plan) → IsSourceOf (taken_by (ask_of input) s) old → can_create output s.creatable ≡ false
       → a ≡ refused_with (unusable output) → AnswersMigrate written has_failed input output s a
   CutShort : (old new : List plan.Plan) (made : O) → IsSourceOf (taken_by (ask_of input) s) old → AreMigrated old new → can_create output s.creatable ≡ true
-      → HoldsFront new (written made) → has_failed made ≡ true → a ≡ refused_with (unusable output) → AnswersMigrate written has_failed input output s a
+      → HoldsPrefix new (written made) → has_failed made ≡ true → a ≡ refused_with (unusable output) → AnswersMigrate written has_failed input output s a
   Migrated : (old new : List plan.Plan) (made : O) → IsSourceOf (taken_by (ask_of input) s) old → AreMigrated old new → can_create output s.creatable ≡ true
-      → HoldsPlans new (written made) → has_failed made ≡ false → a ≡ told (migrated_lines 0 old new) Done → AnswersMigrate written has_failed input output s a
+      → HoldsPlans new (written made) → has_failed made ≡ false → a ≡ printed (migrated_lines 0 old new) Done → AnswersMigrate written has_failed input output s a
 
--- what a request has to answer, with what the device of a file that it makes tells of it
+-- what a request has to answer, with what the device of a file that it makes shows of it
 abbrev pub IsAnswerTo : {O : Type 0} → (O → Option (List ℕ)) → (O → Bool) → Request → Sources → Answer → Type 0
 IsAnswerTo written has_failed (Plan r) s a = AnswersPlan r.reading r.profile (string_bytes r.file) s a
 IsAnswerTo written has_failed (Check r) s a = AnswersCheck r.reading (string_bytes r.file) (string_bytes r.certificate) s a

@@ -1,8 +1,8 @@
 -- How a run ends, against what a request has to answer.
 use Rattle.std.specs.Prelude.{◌≡◌, ℕ, Bool, true, false, List, [], ◌⊎◌, Option, Result, Ok, Err}
 use Rattle.std.specs.Io.KnownBytes.{Appends}
-use Rattle.byte_io.specs.Transfers.{AppendsFront, Says}
-use Rattle.byte_io.specs.Sources.{AsksFront, Sources}
+use Rattle.byte_io.specs.Transfers.{AppendsPrefix, Says}
+use Rattle.byte_io.specs.Sources.{AsksPrefix, Sources}
 use Rattle.plan_pack.specs.Asking.{UnlessStarved}
 use Rattle.plan_pack.specs.Messages.{message_on}
 use Rattle.plan_pack.specs.Stops.{is_write}
@@ -27,15 +27,15 @@ SaysStop OutOfMemory has_failed old new = Says has_failed old new out_of_memory
 
 -- ---- the parts of a run
 
--- a text is written, and this is the status; or a front of it is
+-- a text is written, and this is the status; or a prefix of it is
 abbrev pub Writes : List ℕ → Status → Result Status Stop → Option (List ℕ) → Option (List ℕ) → Type 0
 Writes text status (Ok answered) old new = (answered ≡ status) × Appends old new text
 Writes text status (Err (Refused refusal)) old new = ⊥
-Writes text status (Err WriteFault) old new = AppendsFront old new text
-Writes text status (Err OutOfMemory) old new = AppendsFront old new text
+Writes text status (Err WriteFault) old new = AppendsPrefix old new text
+Writes text status (Err OutOfMemory) old new = AppendsPrefix old new text
 
 -- the run went to the end of an answer for which P holds, with this status
-pub record IsTold (P : Answer → Type 0) (status : Status) (out_old out_new : Option (List ℕ)) : Type 0 where
+pub record IsReported (P : Answer → Type 0) (status : Status) (out_old out_new : Option (List ℕ)) : Type 0 where
   pub answer : Answer
   pub right : P answer
   pub status_is : answer.status ≡ status
@@ -43,43 +43,43 @@ pub record IsTold (P : Answer → Type 0) (status : Status) (out_old out_new : O
   pub output : Appends out_old out_new answer.output
 
 -- a prefix of the output of an answer for which P holds was written
-pub record IsFront (P : Answer → Type 0) (out_old out_new : Option (List ℕ)) : Type 0 where
+pub record IsPrefix (P : Answer → Type 0) (out_old out_new : Option (List ℕ)) : Type 0 where
   pub answer : Answer
   pub right : P answer
-  pub output : AppendsFront out_old out_new answer.output
+  pub output : AppendsPrefix out_old out_new answer.output
 
 -- nothing was written, or a prefix of the output of an answer for which P holds
 pub data IsUnfinished (P : Answer → Type 0) (out_old out_new : Option (List ℕ)) : Type 0 where
   Silent : Appends out_old out_new [] → IsUnfinished P out_old out_new
-  Begun : IsFront P out_old out_new → IsUnfinished P out_old out_new
+  Begun : IsPrefix P out_old out_new → IsUnfinished P out_old out_new
 
 -- the output and the status of a run, where P has to hold of its answer
-abbrev pub Tells : (Answer → Type 0) → Result Status Stop → Option (List ℕ) → Option (List ℕ) → Type 0
-Tells P (Ok status) out_old out_new = IsTold P status out_old out_new
-Tells P (Err (Refused refusal)) out_old out_new = P (refused_with (message_on refusal)) × Appends out_old out_new []
-Tells P (Err WriteFault) out_old out_new = IsFront P out_old out_new
-Tells P (Err OutOfMemory) out_old out_new = IsUnfinished P out_old out_new
+abbrev pub Reports : (Answer → Type 0) → Result Status Stop → Option (List ℕ) → Option (List ℕ) → Type 0
+Reports P (Ok status) out_old out_new = IsReported P status out_old out_new
+Reports P (Err (Refused refusal)) out_old out_new = P (refused_with (message_on refusal)) × Appends out_old out_new []
+Reports P (Err WriteFault) out_old out_new = IsPrefix P out_old out_new
+Reports P (Err OutOfMemory) out_old out_new = IsUnfinished P out_old out_new
 
 -- what was written and is answered of a stop where an input is explained
-abbrev pub TellsStop : Stop → Result Status Stop → Option (List ℕ) → Option (List ℕ) → Type 0
-TellsStop (Refused refusal) r old new = Tells (λ a. a ≡ where_wrong refusal) r old new
-TellsStop WriteFault r old new = ⊥
-TellsStop OutOfMemory r old new = (r ≡ Err OutOfMemory) × Appends old new []
+abbrev pub ReportsStop : Stop → Result Status Stop → Option (List ℕ) → Option (List ℕ) → Type 0
+ReportsStop (Refused refusal) r old new = Reports (λ a. a ≡ where_wrong refusal) r old new
+ReportsStop WriteFault r old new = ⊥
+ReportsStop OutOfMemory r old new = (r ≡ Err OutOfMemory) × Appends old new []
 
 -- ---- a run
 
--- what a run answers and writes before any message; of a file that it makes, the device tells what was written and whether a
+-- what a run answers and writes before any message; of a file that it makes, the device shows what was written and whether a
 -- write failed
 pub record Answers {O : Type 0} (written : O → Option (List ℕ)) (has_failed : O → Bool) (r : Request) (s left : Sources) (result : Result Status Stop) (out_old out_new : Option (List ℕ)) : Type 0 where
   pub asks : UnlessStarved result (IsLeftBy r s left) (asks_of r s) s left
-  pub tells : Tells (IsAnswerTo written has_failed r s) result out_old out_new
+  pub reports : Reports (IsAnswerTo written has_failed r s) result out_old out_new
 
 -- how a run ends: with its answer or for want of memory, where no write to standard output failed, or at a write that
 -- did
 pub data Ends {O : Type 0} (written : O → Option (List ℕ)) (has_failed : O → Bool) (r : Request) (s left : Sources) (status : Status) (had_failed out_failed err_failed : Bool) (out_old out_new err_old err_new : Option (List ℕ)) : Type 0 where
   Whole : (a : Answer) → IsAnswerTo written has_failed r s a → out_failed ≡ had_failed → IsLeftBy r s left → a.status ≡ status → Appends out_old out_new a.output
       → Says err_failed err_old err_new a.message → Ends written has_failed r s left status had_failed out_failed err_failed out_old out_new err_old err_new
-  Broken : out_failed ≡ true → status ≡ Trouble → IsLeftBy r s left → IsFront (IsAnswerTo written has_failed r s) out_old out_new
+  Broken : out_failed ≡ true → status ≡ Trouble → IsLeftBy r s left → IsPrefix (IsAnswerTo written has_failed r s) out_old out_new
       → Says err_failed err_old err_new write_fault → Ends written has_failed r s left status had_failed out_failed err_failed out_old out_new err_old err_new
-  Starved : out_failed ≡ had_failed → status ≡ Trouble → AsksFront (asks_of r s) s left → IsUnfinished (IsAnswerTo written has_failed r s) out_old out_new
+  Starved : out_failed ≡ had_failed → status ≡ Trouble → AsksPrefix (asks_of r s) s left → IsUnfinished (IsAnswerTo written has_failed r s) out_old out_new
       → Says err_failed err_old err_new out_of_memory → Ends written has_failed r s left status had_failed out_failed err_failed out_old out_new err_old err_new

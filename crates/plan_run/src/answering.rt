@@ -1,15 +1,15 @@
 //! Answering each request.
 ghost use Rattle.std.specs.Prelude.{◌≡◌, ◌||◌, ◌∷◌, [], string_bytes};
-ghost use Rattle.byte_io.specs.Devices.{Told};
+ghost use Rattle.byte_io.specs.Devices.{IfKnown};
 ghost use Rattle.byte_io.specs.Sources.{AreShort, ask_of};
 ghost use Rattle.plan_pack.specs.Asking.{Asks};
 ghost use Rattle.plan_run.specs.Answers.{AnswersCheck, AnswersPlan, IsPlanAnswer, check_asks};
-ghost use Rattle.plan_run.specs.Running.{Tells, is_write_fault};
+ghost use Rattle.plan_run.specs.Running.{Reports, is_write_fault};
 
 use crate::judging::check_list;
+use crate::reporting::report_certificate;
 use crate::request::{CheckRequest, PlanRequest};
 use crate::status::Status;
-use crate::telling::tell_certificate;
 use byte_io::{ByteOut, Files};
 use lit_base::{LitList, Profile};
 use plan_pack::{Refusal, Stop, list_of};
@@ -23,9 +23,9 @@ pub fn answer_plan<'a, F: Files, W: ByteOut>(
     files: &mut F,
     out: &mut W,
 ) -> Result<Status, Stop<'a>>
-    ensures answer { Told (F.sources files.old) (F.sources files.new) (λ s left. AreShort s
+    ensures answer { IfKnown (F.sources files.old) (F.sources files.new) (λ s left. AreShort s
         → Asks result (ask_of (string_bytes request.now.file) ∷ []) s left
-        × Tells (AnswersPlan request.now.reading request.now.profile (string_bytes request.now.file) s) result (W.written out.old) (W.written out.new)) }
+        × Reports (AnswersPlan request.now.reading request.now.profile (string_bytes request.now.file) s) result (W.written out.old) (W.written out.new)) }
     ensures flag { W.has_failed out.new ≡ (W.has_failed out.old || is_write_fault result) }
 {
     match list_of(alloc, request.reading, request.file.as_str(), files) {
@@ -41,9 +41,9 @@ pub fn answer_check<'a, F: Files, W: ByteOut>(
     files: &mut F,
     out: &mut W,
 ) -> Result<Status, Stop<'a>>
-    ensures answer { Told (F.sources files.old) (F.sources files.new) (λ s left. AreShort s
+    ensures answer { IfKnown (F.sources files.old) (F.sources files.new) (λ s left. AreShort s
         → Asks result (check_asks request.now.reading (string_bytes request.now.file) (string_bytes request.now.certificate) s) s left
-        × Tells (AnswersCheck request.now.reading (string_bytes request.now.file) (string_bytes request.now.certificate) s)
+        × Reports (AnswersCheck request.now.reading (string_bytes request.now.file) (string_bytes request.now.certificate) s)
         result (W.written out.old) (W.written out.new)) }
     ensures flag { W.has_failed out.new ≡ (W.has_failed out.old || is_write_fault result) }
 {
@@ -60,13 +60,13 @@ fn plan_list<'a, W: ByteOut>(
     list: &LitList,
     out: &mut W,
 ) -> Result<Status, Stop<'a>>
-    ensures answer { Tells (IsPlanAnswer profile list.now) result (W.written out.old) (W.written out.new) }
+    ensures answer { Reports (IsPlanAnswer profile list.now) result (W.written out.old) (W.written out.new) }
     ensures flag { W.has_failed out.new ≡ (W.has_failed out.old || is_write_fault result) }
 {
     match plan(alloc, list, profile) {
         Ok(certificate) => {
             list.normal_law();
-            tell_certificate(alloc, &certificate, out)
+            report_certificate(alloc, &certificate, out)
         }
         Err(Fault::NoLiterals) => Err(Stop::Refused(Refusal::NoLiterals)),
         Err(Fault::OutOfMemory) => Err(Stop::OutOfMemory),

@@ -1,19 +1,19 @@
 //! Explaining a plan: of a file's patterns, or of a plan file.
 ghost use Rattle.std.specs.Prelude.{◌≡◌, ◌||◌, ◌∷◌, [], ℕ, List, IfOk, Some, length, string_bytes};
-ghost use Rattle.byte_io.specs.Devices.{Told};
+ghost use Rattle.byte_io.specs.Devices.{IfKnown};
 ghost use Rattle.byte_io.specs.Sources.{AreShort, Content, IsShort, Named, ask_of, coming_of};
 ghost use Rattle.lit_base.specs.Cuts.{IsCut};
 ghost use Rattle.lit_base.specs.Profiles.{buckets};
 ghost use Rattle.plan_pack.specs.Asking.{Asks};
 ghost use Rattle.plan_pack.specs.Lists.{ArePlaces};
-ghost use Rattle.plan_run.specs.Answers.{AnswersExplain, AnswersExplainCertificate, AnswersExplainPlan, IsCertificateAnswer, IsCertificateTold, IsExplainAnswer, IsPlanAnswerAt, IsPlanExplained, explained, wrong_at_line};
+ghost use Rattle.plan_run.specs.Answers.{AnswersExplain, AnswersExplainCertificate, AnswersExplainPlan, IsCertificateAnswer, IsCertificateReported, IsExplainAnswer, IsPlanAnswerAt, IsPlanExplained, explained, wrong_at_line};
 ghost use Rattle.plan_run.specs.Messages.{certificate_head};
-ghost use Rattle.plan_run.specs.Running.{Tells, is_write_fault};
+ghost use Rattle.plan_run.specs.Running.{Reports, is_write_fault};
 
-use crate::flaws::{tell_refusal, tell_stop};
+use crate::flaws::{report_refusal, report_stop};
+use crate::reporting::{report, report_bytes};
 use crate::request::ExplainRequest;
 use crate::status::Status;
-use crate::telling::{tell, tell_bytes};
 use byte_io::{ByteIn, ByteOut, Files};
 use flow_scan::Compiled;
 use lit_base::{Ends, LitList, Profile};
@@ -30,9 +30,9 @@ pub fn answer_explain<'a, F: Files, W: ByteOut>(
     files: &mut F,
     out: &mut W,
 ) -> Result<Status, Stop<'a>>
-    ensures answer { Told (F.sources files.old) (F.sources files.new) (λ s left. AreShort s
+    ensures answer { IfKnown (F.sources files.old) (F.sources files.new) (λ s left. AreShort s
         → Asks result (ask_of (string_bytes request.now.file) ∷ []) s left
-        × Tells (AnswersExplain request.now.reading request.now.profile request.now.svg (string_bytes request.now.file) s)
+        × Reports (AnswersExplain request.now.reading request.now.profile request.now.svg (string_bytes request.now.file) s)
         result (W.written out.old) (W.written out.new)) }
     ensures flag { W.has_failed out.new ≡ (W.has_failed out.old || is_write_fault result) }
 {
@@ -41,7 +41,7 @@ pub fn answer_explain<'a, F: Files, W: ByteOut>(
             let places = normal.place_of.as_slice();
             explain_list(alloc, request.profile, request.svg, &list, places, out)
         }
-        Err(stop) => tell_stop(alloc, stop, out),
+        Err(stop) => report_stop(alloc, stop, out),
     }
 }
 
@@ -55,15 +55,15 @@ fn explain_list<'a, W: ByteOut>(
     out: &mut W,
 ) -> Result<Status, Stop<'a>>
     ensures answer { (patterns : List (List ℕ)) → ArePlaces list.now patterns places.now
-        → Tells (IsExplainAnswer profile list.now svg patterns) result (W.written out.old) (W.written out.new) }
+        → Reports (IsExplainAnswer profile list.now svg patterns) result (W.written out.old) (W.written out.new) }
     ensures flag { W.has_failed out.new ≡ (W.has_failed out.old || is_write_fault result) }
 {
     match plan(alloc, list, profile) {
         Ok(certificate) => {
             let text = explained(alloc, profile, svg, list, &certificate.ends, places)?;
-            tell_bytes(text.as_slice(), Status::Done, out)
+            report_bytes(text.as_slice(), Status::Done, out)
         }
-        Err(Fault::NoLiterals) => tell_refusal(alloc, Refusal::NoLiterals, out),
+        Err(Fault::NoLiterals) => report_refusal(alloc, Refusal::NoLiterals, out),
         Err(Fault::OutOfMemory) => Err(Stop::OutOfMemory),
     }
 }
@@ -96,14 +96,14 @@ pub fn answer_explain_plan<'a, F: Files, W: ByteOut>(
     files: &mut F,
     out: &mut W,
 ) -> Result<Status, Stop<'a>>
-    ensures answer { Told (F.sources files.old) (F.sources files.new) (λ s left. AreShort s
+    ensures answer { IfKnown (F.sources files.old) (F.sources files.new) (λ s left. AreShort s
         → Asks result (ask_of file.now ∷ []) s left
-        × Tells (AnswersExplainPlan svg file.now place s) result (W.written out.old) (W.written out.new)) }
+        × Reports (AnswersExplainPlan svg file.now place s) result (W.written out.old) (W.written out.new)) }
     ensures flag { W.has_failed out.new ≡ (W.has_failed out.old || is_write_fault result) }
 {
     match plans_of(alloc, file, files) {
         Ok(plans) => explain_one(alloc, svg, file, place, plans.as_slice(), out),
-        Err(stop) => tell_stop(alloc, stop, out),
+        Err(stop) => report_stop(alloc, stop, out),
     }
 }
 
@@ -116,7 +116,7 @@ fn explain_one<'a, W: ByteOut>(
     plans: &[Compiled],
     out: &mut W,
 ) -> Result<Status, Stop<'a>>
-    ensures answer { Tells (IsPlanAnswerAt (IsPlanExplained svg) file.now place plans.now) result
+    ensures answer { Reports (IsPlanAnswerAt (IsPlanExplained svg) file.now place plans.now) result
         (W.written out.old) (W.written out.new) }
     ensures flag { W.has_failed out.new ≡ (W.has_failed out.old || is_write_fault result) }
 {
@@ -133,7 +133,7 @@ fn explain_plan<'a, W: ByteOut>(
     plan: &Compiled,
     out: &mut W,
 ) -> Result<Status, Stop<'a>>
-    ensures answer { Tells (IsPlanExplained svg plan.now) result (W.written out.old) (W.written out.new) }
+    ensures answer { Reports (IsPlanExplained svg plan.now) result (W.written out.old) (W.written out.new) }
     ensures flag { W.has_failed out.new ≡ (W.has_failed out.old || is_write_fault result) }
 {
     let certificate = plan.certificate();
@@ -145,7 +145,7 @@ fn explain_plan<'a, W: ByteOut>(
         &certificate.ends,
         &[],
     )?;
-    tell_bytes(text.as_slice(), Status::Done, out)
+    report_bytes(text.as_slice(), Status::Done, out)
 }
 
 /// Writes which line of a certificate is wrong, or how many runs it has and their cost.
@@ -155,9 +155,9 @@ pub fn answer_explain_certificate<'a, F: Files, W: ByteOut>(
     files: &mut F,
     out: &mut W,
 ) -> Result<Status, Stop<'a>>
-    ensures answer { Told (F.sources files.old) (F.sources files.new) (λ s left. AreShort s
+    ensures answer { IfKnown (F.sources files.old) (F.sources files.new) (λ s left. AreShort s
         → Asks result (Named name.now ∷ []) s left
-        × Tells (AnswersExplainCertificate name.now s) result (W.written out.old) (W.written out.new)) }
+        × Reports (AnswersExplainCertificate name.now s) result (W.written out.old) (W.written out.new)) }
     ensures flag { W.has_failed out.new ≡ (W.has_failed out.old || is_write_fault result) }
 {
     match files.open_named(name) {
@@ -174,13 +174,13 @@ fn explain_certificate<'a, I: ByteIn, W: ByteOut>(
     out: &mut W,
 ) -> Result<Status, Stop<'a>>
     ensures answer { (c : Content) → I.coming input.old ≡ Some (coming_of c) → IsShort c
-        → Tells (IsCertificateAnswer wrong_at_line IsCertificateTold name.now (Some c)) result (W.written out.old) (W.written out.new) }
+        → Reports (IsCertificateAnswer wrong_at_line IsCertificateReported name.now (Some c)) result (W.written out.old) (W.written out.new) }
     ensures flag { W.has_failed out.new ≡ (W.has_failed out.old || is_write_fault result) }
 {
     match read_cert(alloc, input) {
-        Ok(certificate) => tell_head(alloc, &certificate, out),
+        Ok(certificate) => report_head(alloc, &certificate, out),
         Err(lit_cert::Fault::BadCertText { line }) => {
-            tell_refusal(alloc, Refusal::NoCertificate { line }, out)
+            report_refusal(alloc, Refusal::NoCertificate { line }, out)
         }
         Err(lit_cert::Fault::OutOfMemory) => Err(Stop::OutOfMemory),
         Err(lit_cert::Fault::ReadFault) => Err(Stop::Refused(Refusal::Unusable(name))),
@@ -189,16 +189,16 @@ fn explain_certificate<'a, I: ByteIn, W: ByteOut>(
 }
 
 /// Writes how many runs a certificate has, and their cost.
-fn tell_head<'a, W: ByteOut>(
+fn report_head<'a, W: ByteOut>(
     alloc: Global,
     certificate: &Certificate,
     out: &mut W,
 ) -> Result<Status, Stop<'a>>
-    ensures answer { Tells (IsCertificateTold certificate.now) result (W.written out.old) (W.written out.new) }
+    ensures answer { Reports (IsCertificateReported certificate.now) result (W.written out.old) (W.written out.new) }
     ensures flag { W.has_failed out.new ≡ (W.has_failed out.old || is_write_fault result) }
 {
     let text = head_of(alloc, certificate.ends.as_slice().len(), certificate.cost)?;
-    tell(text.as_str(), Status::Done, out)
+    report(text.as_str(), Status::Done, out)
 }
 
 /// How many runs a certificate has, and their cost, as they are written.

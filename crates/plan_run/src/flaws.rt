@@ -4,11 +4,11 @@ ghost use Rattle.std.specs.Option.{option_map};
 ghost use Rattle.plan_pack.specs.Stops.{is_write};
 ghost use Rattle.plan_run.specs.Answers.{where_wrong};
 ghost use Rattle.plan_run.specs.Messages.{wrong_byte, wrong_field, wrong_input, wrong_list};
-ghost use Rattle.plan_run.specs.Running.{Tells, TellsStop, is_write_fault};
+ghost use Rattle.plan_run.specs.Running.{Reports, ReportsStop, is_write_fault};
 
 use crate::judging::not_certified;
+use crate::reporting::report;
 use crate::status::Status;
-use crate::telling::tell;
 use byte_io::ByteOut;
 use lit_base::Fault;
 use plan_file::Cause;
@@ -16,33 +16,33 @@ use plan_pack::{Refusal, Stop};
 use std::alloc::{AllocError, Global};
 
 /// Writes where an input is wrong, for a stop that says so. Any other stop stays one.
-pub fn tell_stop<'a, W: ByteOut>(
+pub fn report_stop<'a, W: ByteOut>(
     alloc: Global,
     stop: Stop<'a>,
     out: &mut W,
 ) -> Result<Status, Stop<'a>>
     requires { is_write stop ≡ false }
-    ensures answer { TellsStop stop.entry result (W.written out.old) (W.written out.new) }
+    ensures answer { ReportsStop stop.entry result (W.written out.old) (W.written out.new) }
     ensures flag { W.has_failed out.new ≡ (W.has_failed out.old || is_write_fault result) }
 {
     match stop {
-        Stop::Refused(refusal) => tell_refusal(alloc, refusal, out),
+        Stop::Refused(refusal) => report_refusal(alloc, refusal, out),
         Stop::WriteFault => unreachable!(),
         Stop::OutOfMemory => Err(Stop::OutOfMemory),
     }
 }
 
 /// Writes where an input is wrong, for a refusal that says so. Any other refusal stays one.
-pub fn tell_refusal<'a, W: ByteOut>(
+pub fn report_refusal<'a, W: ByteOut>(
     alloc: Global,
     refusal: Refusal<'a>,
     out: &mut W,
 ) -> Result<Status, Stop<'a>>
-    ensures answer { Tells (λ a. a ≡ where_wrong refusal.entry) result (W.written out.old) (W.written out.new) }
+    ensures answer { Reports (λ a. a ≡ where_wrong refusal.entry) result (W.written out.old) (W.written out.new) }
     ensures flag { W.has_failed out.new ≡ (W.has_failed out.old || is_write_fault result) }
 {
     match wrong_input(alloc, refusal)? {
-        Some(text) => tell(text.as_str(), Status::Wrong, out),
+        Some(text) => report(text.as_str(), Status::Wrong, out),
         None => Err(Stop::Refused(refusal)),
     }
 }

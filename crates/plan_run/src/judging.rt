@@ -1,14 +1,14 @@
 //! Checking a certificate, and a plan of a plan file.
 ghost use Rattle.std.specs.Prelude.{◌≡◌, ◌||◌, ◌∷◌, [], IfOk, Some, string_bytes};
-ghost use Rattle.byte_io.specs.Devices.{Told};
+ghost use Rattle.byte_io.specs.Devices.{IfKnown};
 ghost use Rattle.byte_io.specs.Sources.{AreShort, Content, IsShort, Named, after, ask_of, coming_of, taken_by};
 ghost use Rattle.plan_pack.specs.Asking.{Asks};
 ghost use Rattle.plan_run.specs.Answers.{AnswersCheckPlan, IsCheckAnswer, IsPlanAnswerAt, IsVerdict};
 ghost use Rattle.plan_run.specs.Messages.{not_certified, optimal};
-ghost use Rattle.plan_run.specs.Running.{Tells, is_write_fault};
+ghost use Rattle.plan_run.specs.Running.{Reports, is_write_fault};
 
+use crate::reporting::report;
 use crate::status::Status;
-use crate::telling::tell;
 use byte_io::{ByteIn, ByteOut, Files};
 use flow_scan::Compiled;
 use lit_base::LitList;
@@ -24,9 +24,9 @@ pub fn check_list<'a, F: Files, W: ByteOut>(
     files: &mut F,
     out: &mut W,
 ) -> Result<Status, Stop<'a>>
-    ensures answer { Told (F.sources files.old) (F.sources files.new) (λ s left. AreShort s
+    ensures answer { IfKnown (F.sources files.old) (F.sources files.new) (λ s left. AreShort s
         → (left ≡ after (Named name.now) s)
-        × Tells (IsCheckAnswer list.now name.now (taken_by (Named name.now) s)) result (W.written out.old) (W.written out.new)) }
+        × Reports (IsCheckAnswer list.now name.now (taken_by (Named name.now) s)) result (W.written out.old) (W.written out.new)) }
     ensures flag { W.has_failed out.new ≡ (W.has_failed out.old || is_write_fault result) }
 {
     match files.open_named(name) {
@@ -44,7 +44,7 @@ fn judge<'a, I: ByteIn, W: ByteOut>(
     out: &mut W,
 ) -> Result<Status, Stop<'a>>
     ensures answer { (c : Content) → I.coming input.old ≡ Some (coming_of c) → IsShort c
-        → Tells (IsCheckAnswer list.now name.now (Some c)) result (W.written out.old) (W.written out.new) }
+        → Reports (IsCheckAnswer list.now name.now (Some c)) result (W.written out.old) (W.written out.new) }
     ensures flag { W.has_failed out.new ≡ (W.has_failed out.old || is_write_fault result) }
 {
     match read_cert(alloc, input) {
@@ -63,17 +63,17 @@ pub fn verdict<'a, W: ByteOut>(
     certificate: &Certificate,
     out: &mut W,
 ) -> Result<Status, Stop<'a>>
-    ensures answer { Tells (IsVerdict list.now certificate.now) result (W.written out.old) (W.written out.new) }
+    ensures answer { Reports (IsVerdict list.now certificate.now) result (W.written out.old) (W.written out.new) }
     ensures flag { W.has_failed out.new ≡ (W.has_failed out.old || is_write_fault result) }
 {
     match check(list, certificate) {
         Ok(()) => {
             let text = optimal(alloc, certificate.cost)?;
-            tell(text.as_str(), Status::Done, out)
+            report(text.as_str(), Status::Done, out)
         }
         Err(reason) => {
             let text = not_certified(alloc, reason)?;
-            tell(text.as_str(), Status::NotCertified, out)
+            report(text.as_str(), Status::NotCertified, out)
         }
     }
 }
@@ -106,9 +106,9 @@ pub fn answer_check_plan<'a, F: Files, W: ByteOut>(
     files: &mut F,
     out: &mut W,
 ) -> Result<Status, Stop<'a>>
-    ensures answer { Told (F.sources files.old) (F.sources files.new) (λ s left. AreShort s
+    ensures answer { IfKnown (F.sources files.old) (F.sources files.new) (λ s left. AreShort s
         → Asks result (ask_of file.now ∷ []) s left
-        × Tells (AnswersCheckPlan file.now place s) result (W.written out.old) (W.written out.new)) }
+        × Reports (AnswersCheckPlan file.now place s) result (W.written out.old) (W.written out.new)) }
     ensures flag { W.has_failed out.new ≡ (W.has_failed out.old || is_write_fault result) }
 {
     match plans_of(alloc, file, files) {
@@ -125,7 +125,7 @@ fn check_plan<'a, W: ByteOut>(
     plans: &[Compiled],
     out: &mut W,
 ) -> Result<Status, Stop<'a>>
-    ensures answer { Tells (IsPlanAnswerAt (λ p. IsVerdict p.literals p.certificate) file.now place plans.now) result
+    ensures answer { Reports (IsPlanAnswerAt (λ p. IsVerdict p.literals p.certificate) file.now place plans.now) result
         (W.written out.old) (W.written out.new) }
     ensures flag { W.has_failed out.new ≡ (W.has_failed out.old || is_write_fault result) }
 {

@@ -9,11 +9,11 @@ mod judging;
 mod listing;
 mod making;
 mod message;
+mod reporting;
 mod request;
 mod running;
 mod scanning;
 mod status;
-mod telling;
 mod workers;
 
 pub use message::say;

@@ -3,9 +3,9 @@ ghost use Rattle.std.specs.Prelude.{◌≡◌, ◌++◌, ◌∷◌, ◌||◌, []
 ghost use Rattle.plan_run.specs.Messages.{hit_line, hit_lines, hits_text, line_of, literal_line};
 ghost use Rattle.plan_run.specs.Running.{Writes, is_write_fault};
 
+use crate::reporting::{report, report_bytes};
 use crate::request::Scan;
 use crate::status::Status;
-use crate::telling::{tell, tell_bytes};
 use byte_io::ByteOut;
 use flow_scan::{Compiled, Hit};
 use plan_pack::{Stop, push_number};
@@ -16,7 +16,7 @@ use std::alloc::{AllocError, Global};
 const HITS_AT_ONCE: usize = 2048;
 
 /// Writes hits of a plan, a line each, or how many they are.
-pub fn tell_hits<'a, W: ByteOut>(
+pub fn report_hits<'a, W: ByteOut>(
     alloc: Global,
     compiled: &Compiled,
     scan: &Scan,
@@ -28,9 +28,9 @@ pub fn tell_hits<'a, W: ByteOut>(
 {
     if scan.count {
         let text = counted(alloc, hits.len())?;
-        return tell(text.as_str(), Status::Done, out);
+        return report(text.as_str(), Status::Done, out);
     }
-    tell_lines(alloc, compiled, scan.names, hits, out)
+    report_lines(alloc, compiled, scan.names, hits, out)
 }
 
 /// How many hits there are, as it is written.
@@ -41,7 +41,7 @@ fn counted(alloc: Global, count: usize) -> Result<String, AllocError>
 }
 
 /// Writes hits, a line each, as many at once as stand in one buffer.
-fn tell_lines<'a, W: ByteOut>(
+fn report_lines<'a, W: ByteOut>(
     alloc: Global,
     compiled: &Compiled,
     names: bool,
@@ -57,7 +57,7 @@ fn tell_lines<'a, W: ByteOut>(
         let (part, after) = rest.split_at(rest.len().min(HITS_AT_ONCE));
         text.clear();
         push_hits(compiled, names, part, &mut text)?;
-        tell_bytes(text.as_slice(), Status::Done, out)?;
+        report_bytes(text.as_slice(), Status::Done, out)?;
         rest = after;
     }
     Ok(Status::Done)

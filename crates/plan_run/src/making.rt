@@ -1,16 +1,16 @@
 //! Answers that make a plan file.
 ghost use Rattle.std.specs.Prelude.{◌≡◌, ◌≤◌, ◌||◌, IfErr, List, Option, false, length, map, string_bytes, ℕ, ◌<◌};
-ghost use Rattle.byte_io.specs.Devices.{Told};
+ghost use Rattle.byte_io.specs.Devices.{IfKnown};
 ghost use Rattle.byte_io.specs.Sources.{AreShort};
 ghost use Rattle.plan_pack.specs.Asking.{Asks, LeavesMigrate, UnlessStarved, migrate_asks, pack_asks};
 ghost use Rattle.plan_pack.specs.Migrating.{Migrates};
 ghost use Rattle.plan_pack.specs.Stops.{is_write};
 ghost use Rattle.plan_run.specs.Answers.{AnswersMigrate, AnswersPack};
-ghost use Rattle.plan_run.specs.Running.{Tells, is_write_fault};
+ghost use Rattle.plan_run.specs.Running.{Reports, is_write_fault};
 
+use crate::reporting::report_bytes;
 use crate::request::PackRequest;
 use crate::status::Status;
-use crate::telling::tell_bytes;
 use byte_io::{ByteOut, Files};
 use plan_pack::{Stop, migrate_file, pack, stop_of};
 use std::alloc::Global;
@@ -21,9 +21,9 @@ pub fn answer_pack<'a, F: Files>(
     request: &'a PackRequest,
     files: &mut F,
 ) -> Result<Status, Stop<'a>>
-    ensures answer { Told (F.sources files.old) (F.sources files.new) (λ s left. AreShort s
+    ensures answer { IfKnown (F.sources files.old) (F.sources files.new) (λ s left. AreShort s
         → Asks result (pack_asks request.now.reading (map string_bytes request.now.files.names.items) (string_bytes request.now.output) s) s left
-        × ((out : Option (List ℕ)) → Tells (AnswersPack F.Output.written F.Output.has_failed request.now.reading request.now.profile
+        × ((out : Option (List ℕ)) → Reports (AnswersPack F.Output.written F.Output.has_failed request.now.reading request.now.profile
         (map string_bytes request.now.files.names.items) (string_bytes request.now.output) s) result out out)) }
     ensures unwritten { IfErr result (λ stop. is_write stop ≡ false) }
 {
@@ -50,13 +50,13 @@ pub fn answer_migrate<'a, F: Files, W: ByteOut>(
     files: &mut F,
     out: &mut W,
 ) -> Result<Status, Stop<'a>>
-    ensures answer { Told (F.sources files.old) (F.sources files.new) (λ s left. AreShort s
+    ensures answer { IfKnown (F.sources files.old) (F.sources files.new) (λ s left. AreShort s
         → UnlessStarved result (LeavesMigrate input.now output.now s left) (migrate_asks input.now output.now) s left
-        × Tells (AnswersMigrate F.Output.written F.Output.has_failed input.now output.now s) result (W.written out.old) (W.written out.new)) }
+        × Reports (AnswersMigrate F.Output.written F.Output.has_failed input.now output.now s) result (W.written out.old) (W.written out.new)) }
     ensures flag { W.has_failed out.new ≡ (W.has_failed out.old || is_write_fault result) }
 {
     match migrate_file(alloc, input, output, files) {
-        Ok((lines, _made)) => tell_bytes(lines.as_slice(), Status::Done, out),
+        Ok((lines, _made)) => report_bytes(lines.as_slice(), Status::Done, out),
         Err(unmade) => Err(stop_of(unmade)),
     }
 }

@@ -30,7 +30,7 @@ pub enum Request {
         /// The number of the plan, from 0.
         place: usize,
     },
-    /// Tell which line of a certificate is wrong, or what it says.
+    /// Report which line of a certificate is wrong, or what it says.
     ExplainCertificate {
         /// The file of the certificate.
         certificate: String,

@@ -1,6 +1,6 @@
 //! A run of litplan.
 ghost use Rattle.std.specs.Prelude.{◌≡◌, ◌≢◌, ◌||◌};
-ghost use Rattle.byte_io.specs.Devices.{Told};
+ghost use Rattle.byte_io.specs.Devices.{IfKnown};
 ghost use Rattle.byte_io.specs.Sources.{AreShort};
 ghost use Rattle.plan_run.specs.Running.{Answers, Ends, is_write_fault};
 
@@ -30,7 +30,7 @@ pub fn run<R: Threads + Sync, F: Files, W: ByteOut, E: ByteOut>(
     out: &mut W,
     err: &mut E,
 ) -> Status
-    ensures ends { Told (F.sources files.old) (F.sources files.new) (λ s left. AreShort s
+    ensures ends { IfKnown (F.sources files.old) (F.sources files.new) (λ s left. AreShort s
         → Ends F.Output.written F.Output.has_failed request.now s left result (W.has_failed out.old) (W.has_failed out.new) (E.has_failed err.new)
         (W.written out.old) (W.written out.new) (E.written err.old) (E.written err.new)) }
 
@@ -55,7 +55,7 @@ pub fn answer<'a, R: Threads + Sync, F: Files, W: ByteOut>(
     files: &mut F,
     out: &mut W,
 ) -> Result<Status, Stop<'a>>
-    ensures answer { Told (F.sources files.old) (F.sources files.new) (λ s left. AreShort s
+    ensures answer { IfKnown (F.sources files.old) (F.sources files.new) (λ s left. AreShort s
         → Answers F.Output.written F.Output.has_failed request.now s left result (W.written out.old) (W.written out.new)) }
 
     // A write fault is answered only where a write failed, and a write that failed is answered so.

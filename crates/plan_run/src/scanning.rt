@@ -1,12 +1,12 @@
 //! Finding patterns in an input.
 ghost use Rattle.std.specs.Prelude.{◌≡◌, ◌||◌, string_bytes};
-ghost use Rattle.byte_io.specs.Devices.{Told};
+ghost use Rattle.byte_io.specs.Devices.{IfKnown};
 ghost use Rattle.byte_io.specs.Sources.{AreShort, after, ask_of, taken_by};
 ghost use Rattle.plan_pack.specs.Asking.{Asks};
-ghost use Rattle.plan_run.specs.Answers.{AnswersInput, AnswersScan, AreHitsTold, scan_asks};
-ghost use Rattle.plan_run.specs.Running.{Tells, is_write_fault};
+ghost use Rattle.plan_run.specs.Answers.{AnswersInput, AnswersScan, AreHitsReported, scan_asks};
+ghost use Rattle.plan_run.specs.Running.{Reports, is_write_fault};
 
-use crate::listing::tell_hits;
+use crate::listing::report_hits;
 use crate::request::Scan;
 use crate::status::Status;
 use byte_io::{ByteOut, Files};
@@ -25,9 +25,9 @@ pub fn answer_scan<'a, R: Threads + Sync, F: Files, W: ByteOut>(
     files: &mut F,
     out: &mut W,
 ) -> Result<Status, Stop<'a>>
-    ensures answer { Told (F.sources files.old) (F.sources files.new) (λ s left. AreShort s
+    ensures answer { IfKnown (F.sources files.old) (F.sources files.new) (λ s left. AreShort s
         → Asks result (scan_asks scan.now.reading (string_bytes scan.now.file) (string_bytes scan.now.input) s) s left
-        × Tells (AnswersScan scan.now.reading scan.now.count scan.now.names (string_bytes scan.now.file) (string_bytes scan.now.input) s)
+        × Reports (AnswersScan scan.now.reading scan.now.count scan.now.names (string_bytes scan.now.file) (string_bytes scan.now.input) s)
         result (W.written out.old) (W.written out.new)) }
     ensures flag { W.has_failed out.new ≡ (W.has_failed out.old || is_write_fault result) }
 {
@@ -52,9 +52,9 @@ fn scan_input<'a, R: Threads + Sync, F: Files, W: ByteOut>(
     files: &mut F,
     out: &mut W,
 ) -> Result<Status, Stop<'a>>
-    ensures answer { Told (F.sources files.old) (F.sources files.new) (λ s left. AreShort s
+    ensures answer { IfKnown (F.sources files.old) (F.sources files.new) (λ s left. AreShort s
         → (left ≡ after (ask_of (string_bytes scan.now.input)) s)
-        × Tells (AnswersInput compiled.now.literals scan.now.count scan.now.names (string_bytes scan.now.input)
+        × Reports (AnswersInput compiled.now.literals scan.now.count scan.now.names (string_bytes scan.now.input)
         (taken_by (ask_of (string_bytes scan.now.input)) s)) result (W.written out.old) (W.written out.new)) }
     ensures flag { W.has_failed out.new ≡ (W.has_failed out.old || is_write_fault result) }
 {
@@ -73,11 +73,11 @@ fn scan_text<'a, R: Threads + Sync, W: ByteOut>(
     text: &[u8],
     out: &mut W,
 ) -> Result<Status, Stop<'a>>
-    ensures answer { Tells (AreHitsTold compiled.now.literals scan.now.count scan.now.names text.now) result (W.written out.old) (W.written out.new) }
+    ensures answer { Reports (AreHitsReported compiled.now.literals scan.now.count scan.now.names text.now) result (W.written out.old) (W.written out.new) }
     ensures flag { W.has_failed out.new ≡ (W.has_failed out.old || is_write_fault result) }
 {
     match scan_parts(rt, alloc, &NoGate, compiled, text, scan.workers.count()) {
-        Ok(hits) => tell_hits(alloc, compiled, scan, hits.as_slice(), out),
+        Ok(hits) => report_hits(alloc, compiled, scan, hits.as_slice(), out),
         Err(Fault::OutOfMemory) => Err(Stop::OutOfMemory),
     }
 }

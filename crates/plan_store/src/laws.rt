@@ -111,9 +111,9 @@ pub fn numbers_are_apart<R: Threads + Wait + Sync>(
     one: Compiled,
     other: Compiled,
 ) -> Result<(Ticket, Ticket), Fault>
-    ensures first { IfOk result (λ told. ShowsPlan store.now one told.0) }
-    ensures second { IfOk result (λ told. ShowsPlan store.now other told.1) }
-    ensures apart { IfOk result (λ told. one ≢ other → told.0.number ≢ told.1.number) }
+    ensures first { IfOk result (λ tickets. ShowsPlan store.now one tickets.0) }
+    ensures second { IfOk result (λ tickets. ShowsPlan store.now other tickets.1) }
+    ensures apart { IfOk result (λ tickets. one ≢ other → tickets.0.number ≢ tickets.1.number) }
     ensures fault { IsOkUnless result OutOfMemory }
 {
     let (first, second) = join(

@@ -13,9 +13,9 @@ pub struct Ticket {
 }
 
 impl Model for Ticket {
-    ghost use Rattle.plan_store.specs.Tickets.{Told};
+    ghost use Rattle.plan_store.specs.Tickets.{TicketParts};
 
-    ghost Value = { Told };
+    ghost Value = { TicketParts };
 
     ghost view = { λ t. record {
       number = t.pushed.index;

@@ -118,7 +118,7 @@ fn sixteen_in_version_1() -> [u8; 153] {
 }
 
 #[test]
-fn refuses_what_version_1_cannot_tell(rt: HostRuntime) -> Result<(), Fail> {
+fn refuses_what_version_1_cannot_express(rt: HostRuntime) -> Result<(), Fail> {
     let alloc = rt.alloc();
     assert!(rt; is_wrong(alloc, &sixteen_in_version_1(), 8, Cause::Flags)?);
     assert!(rt; is_wrong_with(alloc, old(), 8, 0x02, 8, Cause::Flags)?);
@@ -127,7 +127,7 @@ fn refuses_what_version_1_cannot_tell(rt: HostRuntime) -> Result<(), Fail> {
 }
 
 #[test]
-fn refuses_what_version_2_cannot_tell(rt: HostRuntime) -> Result<(), Fail> {
+fn refuses_what_version_2_cannot_express(rt: HostRuntime) -> Result<(), Fail> {
     let alloc = rt.alloc();
     assert!(rt; is_wrong_with(alloc, ONE, 8, 0x04, 8, Cause::Flags)?);
     assert!(rt; is_wrong_with(alloc, ONE, 9, 0x10, 9, Cause::Count)?);
@@ -169,7 +169,7 @@ fn refuses_each_altered_field_of_the_certificate(rt: HostRuntime) -> Result<(), 
     Ok(())
 }
 
-/// A front of a file of version 1, with nine runs after the literals `a` to `i`.
+/// A prefix of a file of version 1, with nine runs after the literals `a` to `i`.
 const NINE_RUNS: [u8; 39] = [
     0x4C, 0x50, 0x4C, 0x46, 0x00, 0x01, 0x00, 0x01, 0x00, 0x00, 0x09, 0x00, 0x01, 0x61, 0x00, 0x01,
     0x62, 0x00, 0x01, 0x63, 0x00, 0x01, 0x64, 0x00, 0x01, 0x65, 0x00, 0x01, 0x66, 0x00, 0x01, 0x67,
@@ -252,8 +252,8 @@ fn field_at(place: usize) -> usize {
     }
 }
 
-/// The first front of a file that is not refused as short at its first field that is not whole.
-fn front_that_passes(alloc: Global, file: &[u8]) -> Result<Option<usize>, AllocError> {
+/// The first prefix of a file that is not refused as short at its first field that is not whole.
+fn prefix_that_passes(alloc: Global, file: &[u8]) -> Result<Option<usize>, AllocError> {
     for len in 0..file.len() {
         if !is_wrong(alloc, &file[..len], field_at(len), Cause::Short)? {
             return Ok(Some(len));
@@ -263,10 +263,10 @@ fn front_that_passes(alloc: Global, file: &[u8]) -> Result<Option<usize>, AllocE
 }
 
 #[test]
-fn refuses_each_front_as_short(rt: HostRuntime) -> Result<(), Fail> {
-    assert_eq!(rt; front_that_passes(rt.alloc(), &ONE)?, None);
-    assert_eq!(rt; front_that_passes(rt.alloc(), &old())?, None);
-    assert_eq!(rt; front_that_passes(rt.alloc(), &SIXTEEN)?, None);
+fn refuses_each_prefix_as_short(rt: HostRuntime) -> Result<(), Fail> {
+    assert_eq!(rt; prefix_that_passes(rt.alloc(), &ONE)?, None);
+    assert_eq!(rt; prefix_that_passes(rt.alloc(), &old())?, None);
+    assert_eq!(rt; prefix_that_passes(rt.alloc(), &SIXTEEN)?, None);
     Ok(())
 }
 
@@ -283,7 +283,7 @@ fn refuses_a_byte_after_the_last_plan(rt: HostRuntime) -> Result<(), Fail> {
     Ok(())
 }
 
-/// A front of a file, whose literals `b` and `a` are not in order.
+/// A prefix of a file, whose literals `b` and `a` are not in order.
 const NOT_IN_ORDER: [u8; 17] = [
     0x4C, 0x50, 0x4C, 0x46, 0x00, 0x02, 0x00, 0x01, 0x00, 0x00, 0x02, 0x00, 0x01, 0x62, 0x00, 0x01,
     0x61,
@@ -360,7 +360,7 @@ fn two_are_read(alloc: Global) -> Result<bool, Fail> {
 }
 
 #[test]
-fn reads_two_plans_and_tells_places_in_the_second(rt: HostRuntime) -> Result<(), Fail> {
+fn reads_two_plans_and_reports_places_in_the_second(rt: HostRuntime) -> Result<(), Fail> {
     assert!(rt; two_are_read(rt.alloc())?);
     Ok(())
 }
@@ -408,7 +408,7 @@ fn writes_the_file_of_two_plans_to_a_device(rt: HostRuntime) -> Result<(), Fail>
 }
 
 #[test]
-fn tells_a_write_that_fails(rt: HostRuntime) -> Result<(), Fail> {
+fn reports_a_write_that_fails(rt: HostRuntime) -> Result<(), Fail> {
     let (text, fails) = written_within(rt.alloc(), &ONE, 20)?;
     assert!(rt; fails);
     assert!(rt; text.as_slice() == &ONE[..20]);
@@ -429,7 +429,7 @@ fn reads_the_file_from_a_device(rt: HostRuntime) {
 }
 
 #[test]
-fn tells_the_fault_of_what_a_device_gave(rt: HostRuntime) {
+fn reports_the_fault_of_what_a_device_gave(rt: HostRuntime) {
     let short = Fault::BadPlanFile {
         place: 81,
         cause: Cause::Short,
@@ -438,7 +438,7 @@ fn tells_the_fault_of_what_a_device_gave(rt: HostRuntime) {
 }
 
 #[test]
-fn tells_a_read_that_fails(rt: HostRuntime) {
+fn reports_a_read_that_fails(rt: HostRuntime) {
     assert_eq!(rt;
         plans_in(rt.alloc(), CutIn::failing_after(&ONE, 40)),
         Err(Fault::ReadFault)

@@ -45,8 +45,8 @@ fn shows_in_one_thread_what_another_published(rt: HostRuntime) {
 }
 
 #[test]
-fn tells_two_threads_two_numbers(rt: HostRuntime) {
-    assert_eq!(rt; told_in_new(&rt, rt.alloc()), Some((0, 1)));
+fn gives_two_threads_two_numbers(rt: HostRuntime) {
+    assert_eq!(rt; numbers_in_new(&rt, rt.alloc()), Some((0, 1)));
 }
 
 #[test]
@@ -94,8 +94,8 @@ fn found_in_new<R: Wait>(
 ) -> Option<(Option<Pair>, [u64; 2], [Option<Pair>; 4])> {
     let store = PlanStore::new(alloc).ok()?;
     let before = found(&store, 5);
-    let told = publish_two(rt, alloc, &store)?;
-    Some((before, told, four_found(&store)))
+    let got = publish_two(rt, alloc, &store)?;
+    Some((before, got, four_found(&store)))
 }
 
 /// The numbers under which two plans were stored.
@@ -151,8 +151,8 @@ fn publish_in_threads<R: Threads + Wait + Sync>(
 /// How many of the numbers that a new store gave have the right plans, and how many differ.
 fn counts_of_threads<R: Threads + Wait + Sync>(rt: &R, alloc: Global) -> Option<(usize, usize)> {
     let store = PlanStore::new(alloc).ok()?;
-    let told = publish_in_threads(rt, alloc, &store)?;
-    Some((found_count(&store, &told), distinct_count(alloc, &told)?))
+    let got = publish_in_threads(rt, alloc, &store)?;
+    Some((found_count(&store, &got), distinct_count(alloc, &got)?))
 }
 
 /// How many of a thread's numbers have its plans.
@@ -165,18 +165,18 @@ fn found_of(store: &PlanStore, thread: usize, numbers: &[u64]) -> usize {
 }
 
 /// How many of the given numbers have the right plans.
-fn found_count(store: &PlanStore, told: &[Vec<u64>]) -> usize {
+fn found_count(store: &PlanStore, got: &[Vec<u64>]) -> usize {
     let mut count = 0usize;
-    for (thread, numbers) in told.iter().enumerate() {
+    for (thread, numbers) in got.iter().enumerate() {
         count = count.saturating_add(found_of(store, thread, numbers));
     }
     count
 }
 
 /// How many different numbers were given.
-fn distinct_count(alloc: Global, told: &[Vec<u64>]) -> Option<usize> {
+fn distinct_count(alloc: Global, got: &[Vec<u64>]) -> Option<usize> {
     let mut all: Vec<u64> = Vec::new(alloc);
-    for numbers in told {
+    for numbers in got {
         all.extend_from_slice(numbers).ok()?;
     }
     all.sort().ok()?;
@@ -258,7 +258,7 @@ fn all_shown<R: Threads + Wait + Sync>(
 }
 
 /// The numbers that two threads get for equal plans.
-fn told_to_two<R: Threads + Wait + Sync>(
+fn numbers_of_two<R: Threads + Wait + Sync>(
     rt: &R,
     alloc: Global,
     store: &PlanStore,
@@ -271,9 +271,9 @@ fn told_to_two<R: Threads + Wait + Sync>(
 }
 
 /// The numbers of a new store, the lower first.
-fn told_in_new<R: Threads + Wait + Sync>(rt: &R, alloc: Global) -> Option<(u64, u64)> {
+fn numbers_in_new<R: Threads + Wait + Sync>(rt: &R, alloc: Global) -> Option<(u64, u64)> {
     let store = PlanStore::new(alloc).ok()?;
-    let (one, other) = told_to_two(rt, alloc, &store, CA)?;
+    let (one, other) = numbers_of_two(rt, alloc, &store, CA)?;
     Some((one.min(other), one.max(other)))
 }
 

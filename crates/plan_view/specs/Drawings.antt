@@ -29,15 +29,15 @@ highest_cost ls least p [] = least
 highest_cost ls least p (q ∷ more) = highest_cost ls (max least (run_cost ls p q)) q more
 
 -- what a bucket holds and costs
-unfoldable pub numbers_told : Literals → List ℕ → ℕ → ℕ → ℕ → List ℕ
-numbers_told l ends b p q =
+unfoldable pub numbers_text : Literals → List ℕ → ℕ → ℕ → ℕ → List ℕ
+numbers_text l ends b p q =
     let cost = run_cost (lengths l) p q in
     said (codes "bucket ") (b + 1) ++ (said (codes ": literals ") (q - p) ++ (said (codes ", shortest ") (slice_index (lengths l) p)
     ++ (said (codes ", cost ") cost ++ said (codes ", % of all ") (percent cost (total_of l ends)))))
 
 -- the title of a bucket, which shows where a pointer rests on it
 unfoldable pub title : Literals → List ℕ → ℕ → ℕ → ℕ → List ℕ
-title l ends b p q = codes "<title>" ++ (numbers_told l ends b p q ++ (flat_map xml_byte (span l p q) ++ codes "</title>\n"))
+title l ends b p q = codes "<title>" ++ (numbers_text l ends b p q ++ (flat_map xml_byte (span l p q) ++ codes "</title>\n"))
 
 -- a bar that stands on the line, x to the right, so wide and so high
 unfoldable pub bar : ℕ → ℕ → ℕ → List ℕ
@@ -92,7 +92,7 @@ foot = codes "<path d=\"M40 260H680\"/>\n<text x=\"40\" y=\"300\">literals by le
 
 -- the line of a bucket in the legend, which also has the numbers of bars that are too narrow for them
 unfoldable pub legend_line : Literals → List ℕ → ℕ → ℕ → ℕ → List ℕ
-legend_line l ends b p q = said (codes "<text x=\"40\" y=\"") (324 + b * 18) ++ (codes "\">" ++ (numbers_told l ends b p q ++ codes "</text>\n"))
+legend_line l ends b p q = said (codes "<text x=\"40\" y=\"") (324 + b * 18) ++ (codes "\">" ++ (numbers_text l ends b p q ++ codes "</text>\n"))
 
 -- the lines of the buckets from b on, which begin at place p and have these ends
 abbrev pub legend_from : Literals → List ℕ → ℕ → ℕ → List ℕ → List ℕ

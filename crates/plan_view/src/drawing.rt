@@ -2,7 +2,7 @@
 ghost use Rattle.std.specs.Prelude.{◌≡◌, ◌+◌, ◌^◌, ◌<◌, ◌≤◌, ◌++◌, OnOk, IfOk, flat_map, length};
 ghost use Rattle.lit_base.specs.Cuts.{CutsFrom, IsCut};
 ghost use Rattle.lit_base.specs.Literals.{lengths};
-ghost use Rattle.plan_view.specs.Drawings.{across, bar, bar_numbers, caption, drawn, drawn_from, even_phrase, head, height, highest_cost, legend_from, legend_line, number_at, numbers_told, plan_svg, said, title, xml_byte};
+ghost use Rattle.plan_view.specs.Drawings.{across, bar, bar_numbers, caption, drawn, drawn_from, even_phrase, head, height, highest_cost, legend_from, legend_line, number_at, numbers_text, plan_svg, said, title, xml_byte};
 
 use crate::rows::{percent, push_span, run_cost};
 use crate::sums::{even_parts, push_number, single};
@@ -211,7 +211,7 @@ fn push_numbers(
     requires bucket { bucket < 16 }
     requires some { start < end }
     requires within { end ≤ length view.list.now.texts }
-    ensures { OnOk result (text.new.items ≡ text.old.items ++ numbers_told view.entry.list.now view.entry.ends.now.items bucket start end) }
+    ensures { OnOk result (text.new.items ≡ text.old.items ++ numbers_text view.entry.list.now view.entry.ends.now.items bucket start end) }
 {
     let cost = run_cost(view.list, start, end);
     push_said(b"bucket ", bucket as u64 + 1, text)?;

@@ -13,7 +13,7 @@ use lit_base::{LitList, Profile, buckets};
 use std::alloc::{AllocError, Global};
 
 /// How many dropped patterns are listed one by one.
-const MAX_TOLD: usize = 10;
+const MAX_LISTED: usize = 10;
 
 /// Appends what the plan costs, and what one bucket and even parts would.
 pub fn push_sums(view: View<'_>, text: &mut Vec<u8>) -> Result<(), AllocError>
@@ -117,18 +117,18 @@ pub fn push_drops(
 {
     let found = repeats(alloc, places)?;
     push_count(b"equal to an earlier line: ", found.len(), text)?;
-    push_repeats(told(found.as_slice()), text)?;
+    push_repeats(at_most_listed(found.as_slice()), text)?;
     push_count(b"null patterns: ", nulls(places), text)?;
     Ok(())
 }
 
 /// The patterns that are listed one by one.
 #[tactic(auto, using(std::proofs::lemmas::List::take_all))]
-fn told(found: &[Repeat]) -> &[Repeat]
+fn at_most_listed(found: &[Repeat]) -> &[Repeat]
     ensures { result.now ≡ take 10 found.now }
 {
-    if found.len() > MAX_TOLD {
-        &found[..MAX_TOLD]
+    if found.len() > MAX_LISTED {
+        &found[..MAX_LISTED]
     } else {
         found
     }

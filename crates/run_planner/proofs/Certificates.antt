@@ -81,8 +81,8 @@ certified-from_meter most l c n prices from_one size same first cost tails len =
 
 -- by its own profile
 pub certified_by_meter : (profile : Profile) (l : Literals) (c : CertificateParts) (n : ℕ) (prices : ℕ → ℕ → ℕ) → c.profile ≡ profile → n ≡ length l.texts → prices ≡ run_cost (lengths l) → IsFirstCut prices (buckets profile) n c.ends → c.cost ≡ cut_price prices 0 c.ends → AreTailCosts prices n (buckets profile) c.potentials → length c.potentials ≡ buckets profile * n → IsCertified l c
-certified_by_meter profile l c n prices told size same first cost tails len =
-    subst (λ p. IsCertifiedFor (buckets p) l c) (sym told) (certified-from_meter (buckets profile) l c n prices (from_one profile) size same first cost tails len)
+certified_by_meter profile l c n prices for_profile size same first cost tails len =
+    subst (λ p. IsCertifiedFor (buckets p) l c) (sym for_profile) (certified-from_meter (buckets profile) l c n prices (from_one profile) size same first cost tails len)
   where
     from_one : (profile : Profile) → 1 ≤ buckets profile
     from_one Eight = omega arith

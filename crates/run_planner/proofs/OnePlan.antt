@@ -93,7 +93,7 @@ tail_costs-one c n most hs others some size other_size tails other =
 pub plan-one : (c : ℕ → ℕ → ℕ) (profile : Profile) (n : ℕ) (plan : CertificateParts) → IsPlan c profile n plan → IsOnlyPlan c profile n plan
 plan-one c profile n plan is other also =
     let most = buckets profile in
-    let same : other.profile ≡ plan.profile = also.told ∙ sym is.told in
+    let same : other.profile ≡ plan.profile = also.for_profile ∙ sym is.for_profile in
     let ends = first_cut-one c most n other.ends plan.ends also.first is.first in
     let potentials = tail_costs-one c n most other.potentials plan.potentials is.first.cut.some also.len is.len also.potentials is.potentials in
     let cost : other.cost ≡ plan.cost = also.cost ∙ (ap (cut_price c 0) ends ∙ sym is.cost) in

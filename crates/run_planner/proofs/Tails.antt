@@ -76,38 +76,38 @@ row_end n (suc r) some = let one : suc r - 1 ≡ r = omega arith in rw one (omeg
 
 -- an entry of the row after is the entry of row r
 pub later_at : (n r q : ℕ) (rows done later : List ℕ) → 1 ≤ r → done ≡ take (r * n) rows → later ≡ drop ((r - 1) * n) done → q < n → get_or later q 0 ≡ potential rows n r q
-later_at n r q rows done later some front back inner =
+later_at n r q rows done later some prefix back inner =
     let row : (r - 1) * n + n ≡ r * n = row_end n r some in
     let at : get_or later q 0 ≡ get_or done ((r - 1) * n + q) 0 = ap (λ l. get_or l q 0) back ∙ get_or-drop ((r - 1) * n) done q 0 in
     let before : get_or done ((r - 1) * n + q) 0 ≡ get_or rows ((r - 1) * n + q) 0 =
-    ap (λ l. get_or l ((r - 1) * n + q) 0) front ∙ get_or-take (r * n) rows ((r - 1) * n + q) 0 (omega (arith, row, inner)) in
+    ap (λ l. get_or l ((r - 1) * n + q) 0) prefix ∙ get_or-take (r * n) rows ((r - 1) * n + q) 0 (omega (arith, row, inner)) in
     at ∙ (before ∙ sym (potential-inner rows n r q inner))
 
 -- and how many entries the row after has
 pub later-length : (n r : ℕ) (rows done later : List ℕ) → 1 ≤ r → r * n ≤ length rows → done ≡ take (r * n) rows → later ≡ drop ((r - 1) * n) done → length later ≡ n
-later-length n r rows done later some within front back =
+later-length n r rows done later some within prefix back =
     let row = row_end n r some in
-    let size : length done ≡ r * n = ap length front ∙ length-take-le (r * n) rows within in
+    let size : length done ≡ r * n = ap length prefix ∙ length-take-le (r * n) rows within in
     omega (arith, row, size, ap length back, length-drop ((r - 1) * n) done)
 
 -- what the row after holds are tail costs, at its end too
 pub later_tails : (c : ℕ → ℕ → ℕ) (n r : ℕ) (rows done later : List ℕ) → 1 ≤ r → r * n ≤ length rows → done ≡ take (r * n) rows → later ≡ drop ((r - 1) * n) done → AreTailCosts c n r rows → (q : ℕ) → q ≤ n → IsTailCost c n r q (get_or later q 0)
-later_tails c n r rows done later some within front back tails q inner =
-    row_tails c n r rows some tails q inner (get_or later q 0) (later_at n r q rows done later some front back) (λ end. get_or_past later q 0 (omega (arith, end, later-length n r rows done later some within front back)))
+later_tails c n r rows done later some within prefix back tails q inner =
+    row_tails c n r rows some tails q inner (get_or later q 0) (later_at n r q rows done later some prefix back) (λ end. get_or_past later q 0 (omega (arith, end, later-length n r rows done later some within prefix back)))
 
 -- so they are small
 pub later-small : (c : ℕ → ℕ → ℕ) (n r : ℕ) (rows done later : List ℕ) → 1 ≤ r → r * n ≤ length rows → done ≡ take (r * n) rows → later ≡ drop ((r - 1) * n) done → AreTailCosts c n r rows → AreSmall c n → All (λ v. v < 2 ^ 40) later
-later-small c n r rows done later some within front back tails small =
-    let size = later-length n r rows done later some within front back in
+later-small c n r rows done later some within prefix back tails small =
+    let size = later-length n r rows done later some within prefix back in
     All-from_get_or (λ v. v < 2 ^ 40) later 0 (λ q h.
     let inner : q < n = omega (arith, h, size) in
-    let tail = later_tails c n r rows done later some within front back tails q (omega arith) in
+    let tail = later_tails c n r rows done later some within prefix back tails q (omega arith) in
     omega (arith, small q n inner (omega arith), tail_cost-le c n r q (get_or later q 0) some inner tail))
 
 -- one row more, each entry the least split by the row after
 pub rows_next : (c : ℕ → ℕ → ℕ) (n r : ℕ) (rows done later rest : List ℕ) → 1 ≤ r → r * n ≤ length rows → done ≡ take (r * n) rows → later ≡ drop ((r - 1) * n) done → AreTailCosts c n r rows → ((p : ℕ) → p < n → IsLeastSplit c (slice_index later) n p (slice_index rest p)) → AreTailCosts c n (r + 1) (done ++ rest)
-rows_next c n r rows done later rest some within front back tails filled s p from_one to inner =
-    let size : length done ≡ r * n = ap length front ∙ length-take-le (r * n) rows within in
+rows_next c n r rows done later rest some within prefix back tails filled s p from_one to inner =
+    let size : length done ≡ r * n = ap length prefix ∙ length-take-le (r * n) rows within in
     let row : (s - 1) * n + n ≡ s * n = row_end n s from_one in
     elim (cases_lt r s) [
       | inl last ↦
@@ -115,12 +115,12 @@ rows_next c n r rows done later rest some within front back tails filled s p fro
           let index : (s - 1) * n + p ≡ length done + p = omega (arith, size, row, ap (λ k. k * n) here) in
           let at : potential (done ++ rest) n s p ≡ get_or rest p 0 =
           potential-inner (done ++ rest) n s p inner ∙ (ap (λ i. get_or (done ++ rest) i 0) index ∙ get_or-append-add done rest p 0) in
-          let next = tail_cost-next c (slice_index later) n r p (slice_index rest p) (later_tails c n r rows done later some within front back tails) (filled p inner) in
+          let next = tail_cost-next c (slice_index later) n r p (slice_index rest p) (later_tails c n r rows done later some within prefix back tails) (filled p inner) in
           subst (λ k. IsTailCost c n k p (potential (done ++ rest) n s p)) (sym here) (subst (λ v. IsTailCost c n (r + 1) p v) (sym at) next)
       | inr earlier ↦
           let below : (s - 1) * n + p < length done = omega (arith, size, row, inner, mul-le s n r n earlier (omega arith)) in
           let same : potential (done ++ rest) n s p ≡ potential rows n s p =
-          potential-inner (done ++ rest) n s p inner ∙ (get_or-append done rest 0 ((s - 1) * n + p) below ∙ (ap (λ l. get_or l ((s - 1) * n + p) 0) front ∙ (get_or-take (r * n) rows ((s - 1) * n + p) 0 (omega (arith, below, size)) ∙ sym (potential-inner rows n s p inner)))) in
+          potential-inner (done ++ rest) n s p inner ∙ (get_or-append done rest 0 ((s - 1) * n + p) below ∙ (ap (λ l. get_or l ((s - 1) * n + p) 0) prefix ∙ (get_or-take (r * n) rows ((s - 1) * n + p) 0 (omega (arith, below, size)) ∙ sym (potential-inner rows n s p inner)))) in
           subst (λ v. IsTailCost c n s p v) (sym same) (tails s p from_one earlier inner)
     ]
 

@@ -10,7 +10,7 @@ use Rattle.run_planner.specs.TailCosts.{AreTailCosts}
 -- By the prices c of a run, the certificate of n places is a plan of the profile. It has the first of the cheapest cuts,
 -- into no more runs than there are buckets, its price, and the tail costs.
 pub record IsPlan (c : ℕ → ℕ → ℕ) (profile : Profile) (n : ℕ) (plan : CertificateParts) : Type 0 where
-  pub told : plan.profile ≡ profile
+  pub for_profile : plan.profile ≡ profile
   pub first : IsFirstCut c (buckets profile) n plan.ends
   pub cost : plan.cost ≡ cut_price c 0 plan.ends
   pub potentials : AreTailCosts c n (buckets profile) plan.potentials

@@ -11,10 +11,10 @@ pub replies_push : (old new : List Reply) (reply : Reply) → new ≡ old ++ rep
 replies_push old new reply grown = ap replies_of grown ∙ map-append reply_parts old (reply ∷ [])
 
 -- the first block of the rest, added after the others
-pub blocks_told : (stream : ℕ) (first now : List Reply) (next : List Reply) (done : List (List (ℕ × ℕ))) (block : List (ℕ × ℕ)) (reply : Reply) → replies_of now ≡ replies_of first ++ map (Hits stream) done → next ≡ now ++ reply ∷ [] → reply_parts reply ≡ Hits stream block → replies_of next ≡ replies_of first ++ map (Hits stream) (done ++ block ∷ [])
-blocks_told stream first now next done block reply told grown is =
+pub blocks_replied : (stream : ℕ) (first now : List Reply) (next : List Reply) (done : List (List (ℕ × ℕ))) (block : List (ℕ × ℕ)) (reply : Reply) → replies_of now ≡ replies_of first ++ map (Hits stream) done → next ≡ now ++ reply ∷ [] → reply_parts reply ≡ Hits stream block → replies_of next ≡ replies_of first ++ map (Hits stream) (done ++ block ∷ [])
+blocks_replied stream first now next done block reply replied grown is =
     replies_push now next reply grown
-    ∙ ap (λ rs. rs ++ reply_parts reply ∷ []) told
+    ∙ ap (λ rs. rs ++ reply_parts reply ∷ []) replied
     ∙ ap (λ r. (replies_of first ++ map (Hits stream) done) ++ r ∷ []) is
     ∙ append_assoc (replies_of first) (map (Hits stream) done) (Hits stream block ∷ [])
     ∙ ap (λ rs. replies_of first ++ rs) (sym (map-append (Hits stream) done (block ∷ [])))
@@ -31,11 +31,11 @@ blocks_after most [] blocks rest some all cut = cut
 blocks_after {X} most (block ∷ full) blocks rest some all cut =
     let text : List X = block ++ (joined full ++ rest) in
     let whole : joined (block ∷ full) ++ rest ≡ text = append_assoc block (joined full) rest in
-    let front : take most text ≡ block = ap (λ n. take n text) (sym all.0) ∙ take_at block (joined full ++ rest) (length block) refl in
+    let prefix : take most text ≡ block = ap (λ n. take n text) (sym all.0) ∙ take_at block (joined full ++ rest) (length block) refl in
     let back : drop most text ≡ joined full ++ rest = ap (λ n. drop n text) (sym all.0) ∙ drop_at block (joined full ++ rest) (length block) refl in
     let any : text ≢ [] = λ e. absurd (omega (arith, some, all.0, ap length e, length-append block (joined full ++ rest))) in
     subst (λ xs. AreBlocks most xs (block ∷ full ++ blocks)) (sym whole)
-    (any, sym front, subst (λ xs. AreBlocks most xs (full ++ blocks)) (sym back) (blocks_after most full blocks rest some all.1 cut))
+    (any, sym prefix, subst (λ xs. AreBlocks most xs (full ++ blocks)) (sym back) (blocks_after most full blocks rest some all.1 cut))
 
 -- a list that is no longer than some number has blocks
 blocks_within : {X : Type 0} (most limit : ℕ) (xs : List X) → 0 < most → length xs ≤ limit → (blocks : List (List X)) × AreBlocks most xs blocks

@@ -109,7 +109,7 @@ carried_removed n (a ∷ bs) (t ∷ ss) c =
 
 -- the refusals are the same
 refusals_same : (tails : SessionParts Bound) (bytes : SessionParts Streamed) (request : RequestParts) → IsSeen tails bytes → refusal_of by_bytes bytes request ≡ refusal_of by_tails tails request
-refusals_same tails bytes (Publish folding profile literals) seen = ap (λ (told : List Entry). publish_refusal (length told) literals) seen.told
+refusals_same tails bytes (Publish folding profile literals) seen = ap (λ (published_plans : List Entry). publish_refusal (length published_plans) literals) seen.published_plans
 refusals_same tails bytes (Open stream number) seen =
     ap (λ b. if b then Some StreamInUse else if nat_le MAX_STREAMS (length bytes.streams) then Some StreamQuota else None) (same_is_some (stream_at stream tails) (stream_at stream bytes) (agree stream tails.streams bytes.streams seen.streams))
     ∙ ap (λ n. if is_some (stream_at stream tails) then Some StreamInUse else if nat_le MAX_STREAMS n then Some StreamQuota else None) (same_count tails.streams bytes.streams seen.streams)
@@ -152,7 +152,7 @@ same_openings (b ∷ bs) (s ∷ ss) c =
 same_known : (tails : SessionParts Bound) (bytes : SessionParts Streamed) → IsSeen tails bytes → known_entries by_bytes bytes ≡ known_entries by_tails tails
 same_known tails bytes seen =
     let openings = same_openings tails.streams bytes.streams seen.streams in
-    λ i. seen.told i ++ openings i
+    λ i. seen.published_plans i ++ openings i
 
 agreed_seen : (tails : SessionParts Bound) (bytes : SessionParts Streamed) (entry : Entry) → IsSeen tails bytes → AgreeWith (known_entries by_tails tails) entry → AgreeWith (known_entries by_bytes bytes) entry
 agreed_seen tails bytes entry seen agreed = subst (λ (known : List Entry). AgreeWith known entry) (sym (same_known tails bytes seen)) agreed
@@ -163,8 +163,8 @@ Follows bytes request outcome = (after : SessionParts Streamed) × IsSeen outcom
 
 follows : (tails : SessionParts Bound) (bytes : SessionParts Streamed) (request : RequestParts) (outcome : Outcome Bound) → IsSeen tails bytes → IsAccepted by_tails tails request outcome → Follows bytes request outcome
 follows tails bytes (Publish folding profile literals) outcome seen a = subst (Follows bytes (Publish folding profile literals)) (sym a.is) (
-  record bytes { told = bytes.told ++ a.entry ∷ [] },
-  record { told = ap (λ (es : List Entry). es ++ a.entry ∷ []) seen.told; streams = seen.streams },
+  record bytes { published_plans = bytes.published_plans ++ a.entry ∷ [] },
+  record { published_plans = ap (λ (es : List Entry). es ++ a.entry ∷ []) seen.published_plans; streams = seen.streams },
   record { entry = a.entry; plan = a.plan; sound = a.sound; agreed = agreed_seen tails bytes a.entry seen a.agreed; is = refl },
 )
 follows tails bytes (Open stream number) outcome seen a = elim a [
@@ -180,7 +180,7 @@ follows tails bytes (Open stream number) outcome seen a = elim a [
       } in
       subst (Follows bytes (Open stream number)) (sym o.is) (
         record bytes { streams = bytes.streams ++ (stream, state) ∷ [] },
-        record { told = seen.told; streams = carried_push tails.streams bytes.streams stream o.state state seen.streams here },
+        record { published_plans = seen.published_plans; streams = carried_push tails.streams bytes.streams stream o.state state seen.streams here },
         inl record { entry = o.entry; state = state; asked = o.asked; sound = o.sound; agreed = agreed_seen tails bytes o.entry seen o.agreed; begins = refl; is = refl },
       )
   | inr o ↦ subst (Follows bytes (Open stream number)) (sym o.is) (
@@ -211,7 +211,7 @@ follows tails bytes (Feed stream piece) outcome seen a =
     let here : IsCarried feeds.next next = subst (λ (b : Bound). IsCarried b next) (sym feeds.moves.0) after in
     subst (Follows bytes (Feed stream piece)) (sym feeds.is) (
       record bytes { streams = set_value (nat_eq stream) bytes.streams next },
-      record { told = seen.told; streams = carried_set stream tails.streams bytes.streams feeds.next next seen.streams here },
+      record { published_plans = seen.published_plans; streams = carried_set stream tails.streams bytes.streams feeds.next next seen.streams here },
       (
         state,
         found.1,
@@ -227,7 +227,7 @@ follows tails bytes (Feed stream piece) outcome seen a =
     )
 follows tails bytes (Close stream) outcome seen a = subst (Follows bytes (Close stream)) (sym a) (
   (closed bytes stream).after,
-  record { told = seen.told; streams = carried_removed stream tails.streams bytes.streams seen.streams },
+  record { published_plans = seen.published_plans; streams = carried_removed stream tails.streams bytes.streams seen.streams },
   refl,
 )
 follows tails bytes (ShowPlan stream) outcome seen a =
@@ -249,11 +249,11 @@ step_follows tails bytes request outcome None is seen a =
     }
 step_follows tails bytes request outcome (Some refusal) is seen a =
     let P : Outcome Bound → Type 0 = λ out. IsEventOf out bytes request in
-    let told = refused bytes request refusal in
+    let replied = refused bytes request refusal in
     subst P (sym a) record {
       after = bytes;
       seen = seen;
-      step = subst (λ r. MatchOption r (IsAccepted by_bytes bytes request told) (λ refusal. told ≡ refused bytes request refusal)) (sym (refusals_same tails bytes request seen ∙ is)) refl;
+      step = subst (λ r. MatchOption r (IsAccepted by_bytes bytes request replied) (λ refusal. replied ≡ refused bytes request refusal)) (sym (refusals_same tails bytes request seen ∙ is)) refl;
     }
 
 pub event_law_lem : EventLaw

@@ -50,11 +50,11 @@ below place k least other = elim (cases_lt place k) [ inl sooner ↦ sooner | in
 hits_at_same : (l : Literals) (text : List ℕ) (end at k : ℕ) (found : List (ℕ × ℕ)) → AreHitsAtBefore l text end at k found → ¬ Occurs l text k end → AreHitsAtBefore l text end at (suc k) found
 hits_at_same l text end at k found early not = record {
   rising = early.rising;
-  members = λ place told. (
-    λ inside. let w = (early.members place told).0 inside in (w.0, omega (arith, w.1), w.2),
+  members = λ place replied. (
+    λ inside. let w = (early.members place replied).0 inside in (w.0, omega (arith, w.1), w.2),
     λ w. elim (cases_eq place k) [
       | inl there ↦ absurd (not (subst (λ p. Occurs l text p end) there w.2))
-      | inr other ↦ (early.members place told).1 (w.0, below place k w.1 other, w.2)
+      | inr other ↦ (early.members place replied).1 (w.0, below place k w.1 other, w.2)
     ],
   );
 }

@@ -1,7 +1,7 @@
 pub mod BlockLemmas
 pub mod CarriedLemmas
 pub mod FewLemmas
-pub mod FrontLemmas
+pub mod PrefixLemmas
 pub mod HitsExist
 pub mod RefusalLemmas
 pub mod ServingLemmas

@@ -8,7 +8,7 @@ use Rattle.std.proofs.lemmas.Bool.Decides.{nat_tests}
 use Rattle.std.proofs.lemmas.List.{length-map, map-append}
 use Rattle.lit_base.specs.declared.fold.Fold.{Fold}
 use Rattle.lit_base.specs.declared.profile.Profile.{Profile}
-use Rattle.plan_store.specs.Tickets.{Told}
+use Rattle.plan_store.specs.Tickets.{TicketParts}
 use Rattle.flow_scan.specs.Scanners.{fed, started}
 use Rattle.flow_scan.specs.Tails.{AreAdded}
 use Rattle.scan_wire.specs.Messages.{RequestParts, ReplyParts, Publish, Open, Feed, Close, ShowPlan, Published, Opened, Closed}
@@ -33,11 +33,11 @@ opened_shown (stream ∷ streams) = ap (λ es. entry_of stream.1.ticket ∷ es) 
 -- the entries that a session knows are the entries of its tickets
 known_shown : (s : Serving) → known_entries by_tails (parts_of s) ≡ known_to s
 known_shown s =
-    ap (λ es. map entry_of s.told ++ es) (opened_shown s.streams)
-    ∙ sym (map-append entry_of s.told (map (λ (stream : ℕ × Bound). stream.1.ticket) s.streams))
+    ap (λ es. map entry_of s.published_plans ++ es) (opened_shown s.streams)
+    ∙ sym (map-append entry_of s.published_plans (map (λ (stream : ℕ × Bound). stream.1.ticket) s.streams))
 
 -- a ticket that agrees with the tickets of a session agrees with the entries that the session knows
-agreed_known : (s : Serving) (ticket : Told) → AgreeWith (known_to s) (entry_of ticket) → AgreeWith (known_entries by_tails (parts_of s)) (entry_of ticket)
+agreed_known : (s : Serving) (ticket : TicketParts) → AgreeWith (known_to s) (entry_of ticket) → AgreeWith (known_entries by_tails (parts_of s)) (entry_of ticket)
 agreed_known s ticket agreed = subst (λ (entries : List Entry). AgreeWith entries (entry_of ticket)) (sym (known_shown s)) agreed
 
 -- a request with a refusal is refused so
@@ -54,30 +54,30 @@ step_accepted {S} reading before request outcome none accepted =
 
 -- a refused request is an event that changes nothing
 pub event_refused : (s : Serving) (request : RequestParts) (refusal : Refusal) (reply : ReplyParts) → refusal_of by_tails (parts_of s) request ≡ Some refusal → reply ≡ refused_reply (stream_of request) refusal → IsEvent s request (reply ∷ []) s
-event_refused s request refusal reply is told =
+event_refused s request refusal reply is replied =
     let P : ReplyParts → Type 0 = λ r. IsEvent s request (r ∷ []) s in
-    subst P (sym told) record { met = None; step = step_refused by_tails (parts_of s) request refusal is; store = refl }
+    subst P (sym replied) record { met = None; step = step_refused by_tails (parts_of s) request refusal is; store = refl }
 
 -- the number of published plans is a number of entries
-told_count : (s : Serving) (literals : List (List ℕ)) → publish_refusal (length (parts_of s).told) literals ≡ publish_refusal (length s.told) literals
-told_count s literals = ap (λ n. publish_refusal n literals) (length-map s.told entry_of)
+published_count : (s : Serving) (literals : List (List ℕ)) → publish_refusal (length (parts_of s).published_plans) literals ≡ publish_refusal (length s.published_plans) literals
+published_count s literals = ap (λ n. publish_refusal n literals) (length-map s.published_plans entry_of)
 
 -- a Publish that is refused
-pub published_refused : (s : Serving) (fold : Fold) (profile : Profile) (literals : List (List ℕ)) (refusal : Refusal) (reply : ReplyParts) → Some refusal ≡ publish_refusal (length s.told) literals → reply ≡ refused_reply 0 refusal → IsEvent s (Publish fold profile literals) (reply ∷ []) s
-published_refused s fold profile literals refusal reply is told =
-    event_refused s (Publish fold profile literals) refusal reply (told_count s literals ∙ sym is) told
+pub published_refused : (s : Serving) (fold : Fold) (profile : Profile) (literals : List (List ℕ)) (refusal : Refusal) (reply : ReplyParts) → Some refusal ≡ publish_refusal (length s.published_plans) literals → reply ≡ refused_reply 0 refusal → IsEvent s (Publish fold profile literals) (reply ∷ []) s
+published_refused s fold profile literals refusal reply is replied =
+    event_refused s (Publish fold profile literals) refusal reply (published_count s literals ∙ sym is) replied
 
 -- a Publish that is stored
-pub published_entry : (s : Serving) (fold : Fold) (profile : Profile) (literals : List (List ℕ)) (ticket : Told) (reply : ReplyParts) (new : Serving) → None ≡ publish_refusal (length s.told) literals → IsPlanFor fold profile literals ticket.plan → AgreeWith (known_to s) (entry_of ticket) → reply ≡ Published ticket.number → new ≡ record s { told = s.told ++ ticket ∷ [] } → IsEvent s (Publish fold profile literals) (reply ∷ []) new
-published_entry s fold profile literals ticket reply new none planned agreed told after =
+pub published_entry : (s : Serving) (fold : Fold) (profile : Profile) (literals : List (List ℕ)) (ticket : TicketParts) (reply : ReplyParts) (new : Serving) → None ≡ publish_refusal (length s.published_plans) literals → IsPlanFor fold profile literals ticket.plan → AgreeWith (known_to s) (entry_of ticket) → reply ≡ Published ticket.number → new ≡ record s { published_plans = s.published_plans ++ ticket ∷ [] } → IsEvent s (Publish fold profile literals) (reply ∷ []) new
+published_entry s fold profile literals ticket reply new none planned agreed replied after =
     let outcome : Outcome Bound = record { replies = reply ∷ []; met = Some (entry_of ticket); after = parts_of new } in
     let parts : parts_of new ≡ (published (parts_of s) (entry_of ticket)).after =
-    ap parts_of after ∙ ap (λ entries. record { told = entries; streams = s.streams }) (map-append entry_of s.told (ticket ∷ [])) in
+    ap parts_of after ∙ ap (λ entries. record { published_plans = entries; streams = s.streams }) (map-append entry_of s.published_plans (ticket ∷ [])) in
     let is : outcome ≡ published (parts_of s) (entry_of ticket) =
-    λ i. record { replies = told i ∷ []; met = Some (entry_of ticket); after = parts i } in
+    λ i. record { replies = replied i ∷ []; met = Some (entry_of ticket); after = parts i } in
     record {
       met = Some (entry_of ticket);
-      step = step_accepted by_tails (parts_of s) (Publish fold profile literals) outcome (told_count s literals ∙ sym none)
+      step = step_accepted by_tails (parts_of s) (Publish fold profile literals) outcome (published_count s literals ∙ sym none)
           record { entry = entry_of ticket; plan = planned.planned; sound = planned.sound; agreed = agreed_known s ticket agreed; is = is };
       store = ap (λ (n : Serving). n.store) after;
     }
@@ -95,7 +95,7 @@ pub closed_stream : (s : Serving) (stream place : ℕ) (new : Serving) → Stand
 closed_stream s stream place new at after =
     let outcome : Outcome Bound = record { replies = Closed stream ∷ []; met = None; after = parts_of new } in
     let parts : parts_of new ≡ (closed (parts_of s) stream).after =
-    ap parts_of after ∙ ap (λ streams. record { told = map entry_of s.told; streams = streams }) (remove_at stream s.streams place at) in
+    ap parts_of after ∙ ap (λ streams. record { published_plans = map entry_of s.published_plans; streams = streams }) (remove_at stream s.streams place at) in
     let is : outcome ≡ closed (parts_of s) stream = ap (λ parts. record { replies = Closed stream ∷ []; met = None; after = parts }) parts in
     record {
       met = None;
@@ -105,9 +105,9 @@ closed_stream s stream place new at after =
 
 -- a ShowPlan
 pub shown_plan : (s : Serving) (stream place : ℕ) (reply : ReplyParts) → (at : StandsAt stream s.streams place) → reply ≡ plan_reply stream at.state.scan.plan → IsEvent s (ShowPlan stream) (reply ∷ []) s
-shown_plan s stream place reply at told =
+shown_plan s stream place reply at replied =
     let P : ReplyParts → Type 0 = λ r. IsEvent s (ShowPlan stream) (r ∷ []) s in
-    subst P (sym told) record {
+    subst P (sym replied) record {
       met = None;
       step = step_accepted by_tails (parts_of s) (ShowPlan stream) (shown (parts_of s) stream at.state.scan.plan) (a_stream s stream place (λ state. None) at) (at.state, lookup_at stream s.streams place at, refl);
       store = refl;
@@ -130,7 +130,7 @@ fed_stream s stream place piece hits blocks next new at moves cut after =
     let streams : set s.streams place next ≡ set_value (nat_eq stream) s.streams next.1 =
     ap (λ n. set s.streams place (n, next.1)) number ∙ set_at stream s.streams place next.1 at in
     let parts : parts_of new ≡ (moved (parts_of s) stream blocks (old.scan.place + length piece) next.1).after =
-    ap parts_of after ∙ ap (λ streams. record { told = map entry_of s.told; streams = streams }) streams in
+    ap parts_of after ∙ ap (λ streams. record { published_plans = map entry_of s.published_plans; streams = streams }) streams in
     let outcome : Outcome Bound = record { replies = fed_replies stream blocks next.1.scan.place; met = None; after = parts_of new } in
     let is : outcome ≡ moved (parts_of s) stream blocks (old.scan.place + length piece) next.1 =
     λ i. record { replies = fed_replies stream blocks (reached i); met = None; after = parts i } in
@@ -168,12 +168,12 @@ opened_free s stream number none few =
     ∙ ap (λ b. if b then Some StreamQuota else None) room
 
 -- an Open that finds an entry
-pub opened_stream : (s : Serving) (stream number : ℕ) (ticket : Told) (reply : ReplyParts) (new : Serving) → refusal_of by_tails (parts_of s) (Open stream number) ≡ None → IsSound ticket.plan → AgreeWith (known_to s) (entry_of ticket) → ticket.number ≡ number → reply ≡ Opened stream → new ≡ record s { streams = s.streams ++ (stream, record { ticket = ticket; scan = started ticket.plan 0 }) ∷ [] } → IsEvent s (Open stream number) (reply ∷ []) new
-opened_stream s stream number ticket reply new none sound agreed asked told after =
+pub opened_stream : (s : Serving) (stream number : ℕ) (ticket : TicketParts) (reply : ReplyParts) (new : Serving) → refusal_of by_tails (parts_of s) (Open stream number) ≡ None → IsSound ticket.plan → AgreeWith (known_to s) (entry_of ticket) → ticket.number ≡ number → reply ≡ Opened stream → new ≡ record s { streams = s.streams ++ (stream, record { ticket = ticket; scan = started ticket.plan 0 }) ∷ [] } → IsEvent s (Open stream number) (reply ∷ []) new
+opened_stream s stream number ticket reply new none sound agreed asked replied after =
     let state : Bound = record { ticket = ticket; scan = started ticket.plan 0 } in
     let outcome : Outcome Bound = record { replies = reply ∷ []; met = Some (entry_of ticket); after = parts_of new } in
     let is : outcome ≡ opened (parts_of s) stream (entry_of ticket) state =
-    λ i. record { replies = told i ∷ []; met = Some (entry_of ticket); after = parts_of (after i) } in
+    λ i. record { replies = replied i ∷ []; met = Some (entry_of ticket); after = parts_of (after i) } in
     record {
       met = Some (entry_of ticket);
       step = step_accepted by_tails (parts_of s) (Open stream number) outcome none
@@ -182,17 +182,17 @@ opened_stream s stream number ticket reply new none sound agreed asked told afte
     }
 
 -- the numbers of the entries are the numbers of the tickets
-numbers_told : (tickets : List Told) → map (λ (entry : Entry). entry.number) (map entry_of tickets) ≡ map (λ (ticket : Told). ticket.number) tickets
-numbers_told [] = refl
-numbers_told (ticket ∷ tickets) = ap (λ ns. ticket.number ∷ ns) (numbers_told tickets)
+numbers_shown : (tickets : List TicketParts) → map (λ (entry : Entry). entry.number) (map entry_of tickets) ≡ map (λ (ticket : TicketParts). ticket.number) tickets
+numbers_shown [] = refl
+numbers_shown (ticket ∷ tickets) = ap (λ ns. ticket.number ∷ ns) (numbers_shown tickets)
 
 -- an Open that finds none
-pub opened_none : (s : Serving) (stream number : ℕ) (reply : ReplyParts) → refusal_of by_tails (parts_of s) (Open stream number) ≡ None → ¬ Contains (map (λ (ticket : Told). ticket.number) (tickets_of s)) number → reply ≡ refused_reply stream NoSuchPlan → IsEvent s (Open stream number) (reply ∷ []) s
-opened_none s stream number reply none stranger told =
+pub opened_none : (s : Serving) (stream number : ℕ) (reply : ReplyParts) → refusal_of by_tails (parts_of s) (Open stream number) ≡ None → ¬ Contains (map (λ (ticket : TicketParts). ticket.number) (tickets_of s)) number → reply ≡ refused_reply stream NoSuchPlan → IsEvent s (Open stream number) (reply ∷ []) s
+opened_none s stream number reply none stranger replied =
     let P : ReplyParts → Type 0 = λ r. IsEvent s (Open stream number) (r ∷ []) s in
-    subst P (sym told) record {
+    subst P (sym replied) record {
       met = None;
       step = step_accepted by_tails (parts_of s) (Open stream number) (refused (parts_of s) (Open stream number) NoSuchPlan) none
-          (inr record { stranger = subst (λ ns. ¬ Contains ns number) (sym (ap (map (λ (entry : Entry). entry.number)) (known_shown s) ∙ numbers_told (tickets_of s))) stranger; is = refl });
+          (inr record { stranger = subst (λ ns. ¬ Contains ns number) (sym (ap (map (λ (entry : Entry). entry.number)) (known_shown s) ∙ numbers_shown (tickets_of s))) stranger; is = refl });
       store = refl;
     }

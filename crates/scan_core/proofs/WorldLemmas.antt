@@ -233,9 +233,9 @@ own_after events event old new after h =
     keeps_step (λ n. past_of who n events) old.entries new.entries stay before (after.apart who) (after.known who) event.request outcome
     (refusal_of by_bytes before event.request) refl h.step met in (
       (λ n state at.
-          let told : past_of who n (events ++ event ∷ []) ≡ next_past event.request event.replies (λ m. past_of who m events) n =
+          let replied : past_of who n (events ++ event ∷ []) ≡ next_past event.request event.replies (λ m. past_of who m events) n =
           past_push who n None events event ∙ ap (λ b. cond (b && is_accepted event.replies) (past_after n event.request (past_of who n events)) (past_of who n events)) (eq-eqb who who refl) in
-          subst (λ p. Known p new.entries state) (sym told) (kept.0 n state at)),
+          subst (λ p. Known p new.entries state) (sym replied) (kept.0 n state at)),
       kept.1,
     )
 
@@ -290,7 +290,7 @@ answered events world who stream piece outcome None after accepted a =
       opened = known.opened_by;
       published = known.stands;
       answer = record { blocks = feeds.blocks; place = place };
-      told = ap (λ (out : Outcome Streamed). out.replies) feeds.is;
+      replied = ap (λ (out : Outcome Streamed). out.replies) feeds.is;
       right = record { hits = feeds.hits; past = past; cut = feeds.cut; reached = ap (λ bs. length bs + length piece) known.bytes };
     }
 

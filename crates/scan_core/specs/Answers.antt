@@ -12,13 +12,13 @@ abbrev pub Extends : List Reply → List Reply → Type 0
 Extends old new = (more : List Reply) × (new ≡ old ++ more)
 
 -- it has gained hits in blocks
-pub record TellsBlocks (stream : ℕ) (hits : List (ℕ × ℕ)) (old new : List Reply) : Type 0 where
+pub record RepliesBlocks (stream : ℕ) (hits : List (ℕ × ℕ)) (old new : List Reply) : Type 0 where
   pub blocks : List (List (ℕ × ℕ))
   pub cut : AreBlocks MAX_HITS hits blocks
   pub grown : replies_of new ≡ replies_of old ++ map (Hits stream) blocks
 
 -- it has gained hits in blocks, and the place reached
-pub record TellsHits (stream : ℕ) (hits : List (ℕ × ℕ)) (place : ℕ) (old new : List Reply) : Type 0 where
+pub record RepliesHits (stream : ℕ) (hits : List (ℕ × ℕ)) (place : ℕ) (old new : List Reply) : Type 0 where
   pub blocks : List (List (ℕ × ℕ))
   pub cut : AreBlocks MAX_HITS hits blocks
   pub grown : replies_of new ≡ replies_of old ++ fed_replies stream blocks place

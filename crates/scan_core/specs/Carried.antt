@@ -24,7 +24,7 @@ AreCarried (b ∷ bs) (s ∷ ss) = (b.0 ≡ s.0) × IsCarried b.1 s.1 × AreCarr
 
 -- the same session, seen both ways
 pub record IsSeen (tails : SessionParts Bound) (bytes : SessionParts Streamed) : Type 0 where
-  pub told : bytes.told ≡ tails.told
+  pub published_plans : bytes.published_plans ≡ tails.published_plans
   pub streams : AreCarried tails.streams bytes.streams
 
 -- the session after a request, seen by bytes, and that the request is a step to it

@@ -11,5 +11,5 @@ pub mod Streams
 pub mod Answers
 pub mod Publishing
 pub mod Carried
-pub mod Fronts
+pub mod Prefixes
 pub mod Faults

@@ -54,10 +54,10 @@ first_refusal place (literal ∷ literals) = earlier (literal_refusal place lite
 abbrev pub list_refusal : List (List ℕ) → Option Refusal
 list_refusal literals = if nat_lt MAX_LIST_LEN (sum_by length literals) then Some ListTooLarge else None
 
--- of a Publish of literals, in a session that published `told` plans
+-- of a Publish of literals, in a session that has published `plan_count` plans
 abbrev pub publish_refusal : ℕ → List (List ℕ) → Option Refusal
-publish_refusal told literals =
-    if nat_le MAX_PLANS told then Some PlanQuota
+publish_refusal plan_count literals =
+    if nat_le MAX_PLANS plan_count then Some PlanQuota
     else if length literals == 0 then Some NoLiterals
     else if nat_lt MAX_PATTERNS (length literals) then Some TooManyPatterns
     else earlier (first_refusal 0 literals) (list_refusal literals)

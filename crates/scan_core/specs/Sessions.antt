@@ -2,7 +2,7 @@
 -- their tickets and the state of their scanners.
 use Rattle.std.specs.Prelude.{◌≡◌, ℕ, List, [], ◌++◌, All, map, Option, IfSome}
 use Rattle.boxcar.specs.Table.{Shelves}
-use Rattle.plan_store.specs.Tickets.{IsOf, Told}
+use Rattle.plan_store.specs.Tickets.{IsOf, TicketParts}
 use Rattle.flow_scan.specs.Scanners.{Scanning, fed, started}
 use Rattle.flow_scan.specs.Tails.{AreAdded}
 use Rattle.scan_wire.specs.Messages.{RequestParts, ReplyParts, reply_parts}
@@ -11,25 +11,25 @@ use Rattle.scan_core.specs.Steps.{Entry, IsStep, Reading, SessionParts}
 
 -- an open stream: the ticket of its plan, and its scan
 pub record Bound : Type 0 where
-  pub ticket : Told
+  pub ticket : TicketParts
   pub scan : Scanning
 
 pub record Serving : Type 0 where
   pub store : Shelves
-  pub told : List Told
+  pub published_plans : List TicketParts
   pub streams : List (ℕ × Bound)
 
 -- a session of a store that has published nothing and has no open stream
 abbrev pub fresh : Shelves → Serving
-fresh store = record { store = store; told = []; streams = [] }
+fresh store = record { store = store; published_plans = []; streams = [] }
 
 -- the entry that a ticket shows
-abbrev pub entry_of : Told → Entry
+abbrev pub entry_of : TicketParts → Entry
 entry_of ticket = record { number = ticket.number; plan = ticket.plan }
 
 -- the session, with the entries of its tickets
 abbrev pub parts_of : Serving → SessionParts Bound
-parts_of s = record { told = map entry_of s.told; streams = s.streams }
+parts_of s = record { published_plans = map entry_of s.published_plans; streams = s.streams }
 
 -- a stream as its scanner keeps it: it begins at place 0 by the plan of its ticket, and a piece adds hits after its tail
 abbrev pub by_tails : Reading Bound
@@ -49,11 +49,11 @@ pub record IsBound (store : Shelves) (state : Bound) : Type 0 where
 
 -- what a session keeps: all its tickets are of its store
 pub record IsServing (s : Serving) : Type 0 where
-  pub told : All (IsOf s.store) s.told
+  pub published_plans : All (IsOf s.store) s.published_plans
   pub streams : All (λ stream. IsBound s.store stream.1) s.streams
 
 -- and its finder, if it has one, is by the plan of a ticket of its store
-pub record IsSession (s : Serving) (learner : Option Told) : Type 0 where
+pub record IsSession (s : Serving) (learner : Option TicketParts) : Type 0 where
   pub serving : IsServing s
   pub own : IfSome learner (IsOf s.store)
 

@@ -42,16 +42,16 @@ pub record Reading (S : Type 0) : Type 1 where
 
 -- a session: the entries that it published, and its open streams by their numbers, in order of opening
 pub record SessionParts (S : Type 0) : Type 0 where
-  pub told : List Entry
+  pub published_plans : List Entry
   pub streams : List (ℕ × S)
 
 -- a session that has published nothing and has no open stream
 abbrev pub new_session : {S : Type 0} → SessionParts S
-new_session {S} = record { told = []; streams = [] }
+new_session {S} = record { published_plans = []; streams = [] }
 
 -- the entries that a session knows: the entries that it published, and the entries that its open streams were opened by
 abbrev pub known_entries : {S : Type 0} → Reading S → SessionParts S → List Entry
-known_entries {S} reading s = s.told ++ map (λ (stream : ℕ × S). reading.opened_by stream.1) s.streams
+known_entries {S} reading s = s.published_plans ++ map (λ (stream : ℕ × S). reading.opened_by stream.1) s.streams
 
 -- the outcome of a request: the replies, the entry that it met, if it met one, and the session after it
 pub record Outcome (S : Type 0) : Type 0 where
@@ -92,7 +92,7 @@ abbrev pub published : {S : Type 0} → SessionParts S → Entry → Outcome S
 published before entry = record {
   replies = Published entry.number ∷ [];
   met = Some entry;
-  after = record before { told = before.told ++ entry ∷ [] };
+  after = record before { published_plans = before.published_plans ++ entry ∷ [] };
 }
 
 -- a stream is opened by an entry
@@ -166,7 +166,7 @@ stream_refusal (Some state) refusal = refusal state
 
 -- the first refusal that a request meets, apart from the number that an Open asks for
 abbrev pub refusal_of : {S : Type 0} → Reading S → SessionParts S → RequestParts → Option Refusal
-refusal_of reading s (Publish fold profile literals) = publish_refusal (length s.told) literals
+refusal_of reading s (Publish fold profile literals) = publish_refusal (length s.published_plans) literals
 refusal_of reading s (Open stream number) =
     if is_some (stream_at stream s) then Some StreamInUse
     else if nat_le MAX_STREAMS (length s.streams) then Some StreamQuota

@@ -1,38 +1,38 @@
 -- Two sessions of one store: that what they know fits into one world.
 use Rattle.std.specs.Prelude.{◌≡◌, ◌≢◌, ℕ, List, [], ◌∷◌, ◌++◌, Contains, IfSome, map, Option, Some}
 use Rattle.std.specs.List.{slice_get}
-use Rattle.plan_store.specs.Tickets.{Told}
+use Rattle.plan_store.specs.Tickets.{TicketParts}
 use Rattle.scan_core.specs.Sessions.{Bound, Serving, entry_of}
 use Rattle.scan_core.specs.Steps.{Entry, IsSound, IsStep, SessionParts}
 use Rattle.scan_core.specs.Worlds.{Event, HasOnePlan, Runs, Streamed, World, by_bytes}
 
 -- the tickets of a session: of the plans that it published, and of its open streams
-abbrev pub tickets_of : Serving → List Told
-tickets_of s = s.told ++ map (λ (stream : ℕ × Bound). stream.1.ticket) s.streams
+abbrev pub tickets_of : Serving → List TicketParts
+tickets_of s = s.published_plans ++ map (λ (stream : ℕ × Bound). stream.1.ticket) s.streams
 
 -- the entries that its tickets show
 abbrev pub known_to : Serving → List Entry
 known_to s = map entry_of (tickets_of s)
 
 -- with the same number, the two show the same plan
-abbrev pub AreAgreed : Told → Told → Type 0
+abbrev pub AreAgreed : TicketParts → TicketParts → Type 0
 AreAgreed one other = one.number ≡ other.number → one.plan ≡ other.plan
 
 -- a ticket agrees with each of a session
-abbrev pub AgreesWith : Told → Serving → Type 0
-AgreesWith ticket s = (place : ℕ) (other : Told) → slice_get (tickets_of s) place ≡ Some other → AreAgreed ticket other
+abbrev pub AgreesWith : TicketParts → Serving → Type 0
+AgreesWith ticket s = (place : ℕ) (other : TicketParts) → slice_get (tickets_of s) place ≡ Some other → AreAgreed ticket other
 
 -- each ticket of a session agrees with each of another
 abbrev pub AgreeAll : Serving → Serving → Type 0
-AgreeAll one other = (place : ℕ) (ticket : Told) → slice_get (tickets_of one) place ≡ Some ticket → AgreesWith ticket other
+AgreeAll one other = (place : ℕ) (ticket : TicketParts) → slice_get (tickets_of one) place ≡ Some ticket → AgreesWith ticket other
 
 -- each ticket of a session shows a plan that holds
 abbrev pub ShowSound : Serving → Type 0
-ShowSound s = (place : ℕ) (ticket : Told) → slice_get (tickets_of s) place ≡ Some ticket → IsSound ticket.plan
+ShowSound s = (place : ℕ) (ticket : TicketParts) → slice_get (tickets_of s) place ≡ Some ticket → IsSound ticket.plan
 
 -- a world before any event, with the given entries
 abbrev pub world_of : List Entry → World
-world_of entries = record { entries = entries; sessions = λ name. record { told = []; streams = [] } }
+world_of entries = record { entries = entries; sessions = λ name. record { published_plans = []; streams = [] } }
 
 -- an event over entries that stay: a step of its session that meets none but these, while all others stay
 pub record IsMeeting (entries : List Entry) (event : Event) (old new : ℕ → SessionParts Streamed) : Type 0 where

@@ -132,7 +132,7 @@ pub record AnswersByPast (events : List Event) (entries : List Entry) (who strea
   pub opened : past_of who stream events ≡ Some record { number = entry.number; pieces = pieces }
   pub published : Contains entries entry
   pub answer : FedAnswer
-  pub told : replies ≡ fed_replies stream answer.blocks answer.place
+  pub replied : replies ≡ fed_replies stream answer.blocks answer.place
   pub right : IsAnswer entry.plan pieces piece answer
 
 -- what holds of all runs from a first world

@@ -1,6 +1,6 @@
 //! Adding the hits of a piece to the replies.
 ghost use Rattle.std.specs.Prelude.{◌≡◌, ◌++◌, OnErr, OnOk};
-ghost use Rattle.scan_core.specs.Answers.{Extends, TellsBlocks, TellsHits};
+ghost use Rattle.scan_core.specs.Answers.{Extends, RepliesBlocks, RepliesHits};
 
 use crate::fault::Fault;
 use flow_scan::Hit;
@@ -15,7 +15,7 @@ pub(crate) fn push_answer(
     place: u64,
     out: &mut Vec<Reply>,
 ) -> Result<(), Fault>
-    ensures ok { OnOk result (TellsHits stream hits.now place out.old.items out.new.items) }
+    ensures ok { OnOk result (RepliesHits stream hits.now place out.old.items out.new.items) }
     ensures err { OnErr result (out.new.items ≡ out.old.items) }
 {
     let before = out.len();
@@ -28,7 +28,7 @@ pub(crate) fn push_answer(
 
 /// Adds the hits and the place. If memory is refused, some replies were added.
 fn push_all(stream: u32, hits: &[Hit], place: u64, out: &mut Vec<Reply>) -> Result<(), AllocError>
-    ensures ok { OnOk result (TellsHits stream hits.now place out.old.items out.new.items) }
+    ensures ok { OnOk result (RepliesHits stream hits.now place out.old.items out.new.items) }
     ensures kept { Extends out.old.items out.new.items }
 {
     push_blocks(stream, hits, out)?;
@@ -38,7 +38,7 @@ fn push_all(stream: u32, hits: &[Hit], place: u64, out: &mut Vec<Reply>) -> Resu
 
 /// Adds the hits. If memory is refused, some replies were added.
 fn push_blocks(stream: u32, hits: &[Hit], out: &mut Vec<Reply>) -> Result<(), AllocError>
-    ensures ok { OnOk result (TellsBlocks stream hits.now out.old.items out.new.items) }
+    ensures ok { OnOk result (RepliesBlocks stream hits.now out.old.items out.new.items) }
     ensures kept { Extends out.old.items out.new.items }
 {
     let mut rest = hits;

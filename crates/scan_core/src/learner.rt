@@ -22,9 +22,9 @@ struct Learned {
 /// A contract sees the ticket.
 impl Model for Learned {
     ghost use Rattle.std.specs.Prelude.{◌≡◌};
-    ghost use Rattle.plan_store.specs.Tickets.{Told};
+    ghost use Rattle.plan_store.specs.Tickets.{TicketParts};
 
-    ghost Value = { Told };
+    ghost Value = { TicketParts };
 
     ghost view = { λ l. l.ticket };
 
@@ -99,9 +99,9 @@ pub(crate) struct Learner {
 /// A contract sees the ticket of its plan.
 impl Model for Learner {
     ghost use Rattle.std.specs.Prelude.{Option};
-    ghost use Rattle.plan_store.specs.Tickets.{Told};
+    ghost use Rattle.plan_store.specs.Tickets.{TicketParts};
 
-    ghost Value = { Option Told };
+    ghost Value = { Option TicketParts };
 
     ghost view = { λ l. l.learned };
 }

@@ -77,12 +77,12 @@ impl Refusal {
     }
 }
 
-/// Why a Publish of literals is refused, in a session that published `told` plans. No refusal is for a normal form with
+/// Why a Publish of literals is refused, in a session that has published `plan_count` plans. No refusal is for a normal form with
 /// too many literals: it has no more than there were patterns.
-pub(crate) fn refusal_of_literals(told: usize, literals: &[Vec<u8>]) -> Option<Refusal>
-    ensures { result ≡ publish_refusal told (texts_of literals.now) }
+pub(crate) fn refusal_of_literals(plan_count: usize, literals: &[Vec<u8>]) -> Option<Refusal>
+    ensures { result ≡ publish_refusal plan_count (texts_of literals.now) }
 {
-    if told >= MAX_PLANS {
+    if plan_count >= MAX_PLANS {
         return Some(Refusal::PlanQuota);
     }
     if literals.is_empty() {

@@ -3,7 +3,7 @@ ghost use Rattle.std.specs.Prelude.{◌≡◌, ◌∷◌, ◌<◌, [], IfErr, If
 ghost use Rattle.std.specs.List.{slice_get};
 ghost use Rattle.plan_store.specs.Tickets.{IsOf};
 ghost use Rattle.scan_wire.specs.Messages.{Close, Feed, Open, Publish, ShowPlan, reply_parts, request_parts, texts_of};
-ghost use Rattle.scan_core.specs.Fronts.{FeedsFront, MayFeed};
+ghost use Rattle.scan_core.specs.Prefixes.{FeedsPrefix, MayFeed};
 ghost use Rattle.scan_core.specs.Refusals.{publish_refusal};
 ghost use Rattle.scan_core.specs.Sessions.{GainsEvent, IsEvent, by_tails, fresh, parts_of};
 ghost use Rattle.scan_core.specs.Steps.{refusal_of};
@@ -31,7 +31,7 @@ use std::sync::Wait;
 #[derive(Drop)]
 pub struct Session<'s> {
     store: &'s PlanStore,
-    told: Few<Ticket>,
+    published_plans: Few<Ticket>,
     streams: Few<Stream<'s>>,
     learner: Learner,
 }
@@ -42,9 +42,9 @@ impl<'s> Model for Session<'s> {
 
     ghost Value = { Serving };
 
-    ghost view = { λ s. record { store = s.store.now; told = s.told; streams = s.streams } };
+    ghost view = { λ s. record { store = s.store.now; published_plans = s.published_plans; streams = s.streams } };
 
-    ghost invariant = { λ s. IsSession record { store = s.store.now; told = s.told; streams = s.streams } s.learner };
+    ghost invariant = { λ s. IsSession record { store = s.store.now; published_plans = s.published_plans; streams = s.streams } s.learner };
 }
 
 impl<'s> Session<'s> {
@@ -54,7 +54,7 @@ impl<'s> Session<'s> {
     {
         Session {
             store,
-            told: Few::new(),
+            published_plans: Few::new(),
             streams: Few::new(),
             learner: Learner::new(),
         }
@@ -71,7 +71,7 @@ impl<'s> Session<'s> {
     pub(crate) fn ticket_count(&self) -> usize
         ensures { result ≡ length (tickets_of self.now) }
     {
-        self.told.len() + self.streams.len()
+        self.published_plans.len() + self.streams.len()
     }
 
     /// The ticket at a place: first come the tickets of the plans that it published.
@@ -80,10 +80,12 @@ impl<'s> Session<'s> {
         ensures at { slice_get (tickets_of self.now) place ≡ Some result.now }
         ensures here { IsOf self.now.store result.now }
     {
-        if place < self.told.len() {
-            self.told.get(place)
+        if place < self.published_plans.len() {
+            self.published_plans.get(place)
         } else {
-            self.streams.get(place - self.told.len()).ticket()
+            self.streams
+                .get(place - self.published_plans.len())
+                .ticket()
         }
     }
 
@@ -153,9 +155,9 @@ impl<'s> Session<'s> {
         ensures ok { IfOk result (λ reply. IsEvent self.old (Publish fold profile (texts_of literals.now)) (reply_parts reply ∷ []) self.new) }
         ensures same { OnErr result (self.new ≡ self.old) }
         ensures fault { IsOkUnless result OutOfMemory }
-        ensures accepted { OnErr result (publish_refusal (length self.old.told) (texts_of literals.now) ≡ None) }
+        ensures accepted { OnErr result (publish_refusal (length self.old.published_plans) (texts_of literals.now) ≡ None) }
     {
-        if let Some(refusal) = refusal_of_literals(self.told.len(), literals) {
+        if let Some(refusal) = refusal_of_literals(self.published_plans.len(), literals) {
             return Ok(refusal.reply(0));
         }
         let plan = planned(alloc, fold, profile, literals)?;
@@ -164,7 +166,7 @@ impl<'s> Session<'s> {
         };
         let number = self.store.number(&ticket);
         agrees_with(&ticket, self);
-        self.told.push(ticket);
+        self.published_plans.push(ticket);
         Ok(Reply::Published { number })
     }
 
@@ -261,7 +263,7 @@ impl<'s> Session<'s> {
     ///
     /// A finder tunes itself to long streams: for one plan at a time, whose streams share it. Without memory for a
     /// finder the stream is searched without.
-    pub fn feed_front(
+    pub fn feed_prefix(
         &mut self,
         alloc: Global,
         stream: u32,
@@ -270,7 +272,7 @@ impl<'s> Session<'s> {
         out: &mut Vec<Hit>,
     ) -> Result<usize, Fault>
         requires { refusal_of by_tails (parts_of self.old) (Feed stream piece.now) ≡ None }
-        ensures ok { IfOk result (λ count. FeedsFront self.old stream piece.now most count out.old.items out.new.items self.new) }
+        ensures ok { IfOk result (λ count. FeedsPrefix self.old stream piece.now most count out.old.items out.new.items self.new) }
         ensures same { OnErr result (self.new ≡ self.old) }
         ensures same_hits { OnErr result (out.new.items ≡ out.old.items) }
         ensures fault { IsOkUnless result OutOfMemory }
@@ -286,7 +288,7 @@ impl<'s> Session<'s> {
             bound.place(),
             piece.len(),
         );
-        let count = bound.feed_front(self.store, &mut self.learner, piece, most, out)?;
+        let count = bound.feed_prefix(self.store, &mut self.learner, piece, most, out)?;
         Ok(count)
     }
 

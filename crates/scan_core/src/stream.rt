@@ -6,7 +6,7 @@ ghost use Rattle.flow_scan.specs.Tails.{GainsHits};
 ghost use Rattle.scan_wire.specs.Messages.{reply_parts};
 ghost use Rattle.scan_core.specs.Sessions.{IsBound};
 ghost use Rattle.scan_core.specs.Steps.{IsSound, plan_reply};
-ghost use Rattle.scan_core.specs.Fronts.{IsKept, MovesUpTo};
+ghost use Rattle.scan_core.specs.Prefixes.{IsKept, MovesUpTo};
 ghost use Rattle.scan_core.specs.Streams.{StandsAt, MovesTo};
 ghost use Rattle.scan_core.specs.declared.fault.Fault.TheVariants.{OutOfMemory};
 ghost use Rattle.std.specs.Map.{lookup};
@@ -102,7 +102,7 @@ impl<'s> Stream<'s> {
     /// Feeds a prefix of a piece, and returns how many bytes that has. The piece is fed up to the first end by which
     /// `out` gained at least `most` hits, or whole, with the finder if that is by the stream's plan. If memory is
     /// refused, the stream and `out` are as they were.
-    pub(crate) fn feed_front(
+    pub(crate) fn feed_prefix(
         &mut self,
         store: &PlanStore,
         learner: &mut Learner,

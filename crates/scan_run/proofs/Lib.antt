@@ -3,4 +3,4 @@ pub mod FilesLemmas
 pub mod LoadLemmas
 pub mod SeenLemmas
 pub mod StatusLemmas
-pub mod TellLemmas
+pub mod SendingLemmas

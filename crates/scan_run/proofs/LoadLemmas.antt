@@ -10,7 +10,7 @@ use Rattle.std.proofs.lemmas.List.Elements.{All-nil, All-cons, All-append}
 use Rattle.boxcar.specs.Table.{Shelves}
 use Rattle.byte_io.specs.Devices.{Clean, Coming, Faulty}
 use Rattle.byte_io.specs.Sources.{Content, OpensAs, Sources, coming_of, source_of}
-use Rattle.byte_io.specs.Transfers.{AppendsPrefix}
+use Rattle.byte_io.specs.Transfers.{AppendsPart}
 use Rattle.byte_io.specs.declared.opener.Missing.{Missing}
 use Rattle.lit_plan.specs.Plans.{Plan}
 use Rattle.lit_plan.specs.declared.compiled.Compiled.{Compiled}
@@ -20,11 +20,11 @@ use Rattle.plan_file.specs.declared.fault.Fault.TheVariants.{OutOfMemory, BadPla
 use Rattle.plan_file.specs.Faults.{IsReadersFault}
 use Rattle.plan_file.specs.FirstFaults.{IsFirstFault}
 use Rattle.plan_file.specs.Spelling.{IsFile}
-use Rattle.plan_store.specs.Tickets.{Told, IsOf}
-use Rattle.scan_run.specs.Loading.{AppendsUpTo, Cut, EndsInLine, InLine, InMessage, IsMessage, IsUnread, Judges, Loads, LoadsFile, MayLeave, PublishesFront, IsSaid, IsShownFault, IsUnopened, LoadsNamed, SaysLines, Whole, Written, message_on, plan_line, plan_lines, plans_of}
+use Rattle.plan_store.specs.Tickets.{TicketParts, IsOf}
+use Rattle.scan_run.specs.Loading.{AppendsUpTo, Cut, EndsInLine, InLine, InMessage, IsMessage, IsUnread, Judges, Loads, LoadsFile, MayLeave, PublishesPrefix, IsSaid, IsShownFault, IsUnopened, LoadsNamed, SaysLines, Whole, Written, message_on, plan_line, plan_lines, plans_of}
 
--- a front of a text, and not all of it, is one of a longer one
-pub prefix-longer : {old new : Option (List ℕ)} {text : List ℕ} (more : List ℕ) → AppendsPrefix old new text → AppendsPrefix old new (text ++ more)
+-- a prefix of a text, and not all of it, is one of a longer one
+pub prefix-longer : {old new : Option (List ℕ)} {text : List ℕ} (more : List ℕ) → AppendsPart old new text → AppendsPart old new (text ++ more)
 prefix-longer {old} {new} {text} more p = record {
   count = p.count;
   fewer = omega (arith, p.fewer, length-append text more);
@@ -32,7 +32,7 @@ prefix-longer {old} {new} {text} more p = record {
 }
 
 -- and one of a text after another, which was written whole
-pub prefix-after : (a b c : Option (List ℕ)) (done text : List ℕ) → Appends a b done → AppendsPrefix b c text → AppendsPrefix a c (done ++ text)
+pub prefix-after : (a b c : Option (List ℕ)) (done text : List ℕ) → Appends a b done → AppendsPart b c text → AppendsPart a c (done ++ text)
 prefix-after a b c done text whole p = record {
   count = length done + p.count;
   fewer = omega (arith, p.fewer, length-append done text);
@@ -44,7 +44,7 @@ pub OnErr-then : {T E P Q : Type 0} (r : Result T E) → OnErr r P → (P → Q)
 OnErr-then (Ok x) p then = tt
 OnErr-then (Err e) p then = then p
 
--- a text and a front of one after it, after a text that was written whole
+-- a text and a prefix of one after it, after a text that was written whole
 up-to-after : (a b c : Option (List ℕ)) (done text after : List ℕ) → Appends a b done → AppendsUpTo b c text after → AppendsUpTo a c (done ++ text) after
 up-to-after a b c done text after whole part = record {
   count = part.count;
@@ -53,14 +53,14 @@ up-to-after a b c done text after whole part = record {
 }
 
 -- the lines of plans after others
-lines_of-append : (xs ys : List Told) → plan_lines (xs ++ ys) ≡ plan_lines xs ++ plan_lines ys
+lines_of-append : (xs ys : List TicketParts) → plan_lines (xs ++ ys) ≡ plan_lines xs ++ plan_lines ys
 lines_of-append xs ys = flat_map-append (λ ticket. plan_line ticket.number) xs ys
 
-lines-after : (a b c : Option (List ℕ)) (xs ys : List Told) → Appends a b (plan_lines xs) → Appends b c (plan_lines ys) → Appends a c (plan_lines (xs ++ ys))
+lines-after : (a b c : Option (List ℕ)) (xs ys : List TicketParts) → Appends a b (plan_lines xs) → Appends b c (plan_lines ys) → Appends a c (plan_lines (xs ++ ys))
 lines-after a b c xs ys whole said = subst (Appends a c) (sym (lines_of-append xs ys)) (Appends-trans a b c (plan_lines xs) (plan_lines ys) whole said)
 
 -- lines after lines that were written whole
-says-after : (a b c : Option (List ℕ)) (xs ys : List Told) (r : Result (Unit {0}) Fault) → Appends a b (plan_lines xs) → SaysLines ys r b c → SaysLines (xs ++ ys) r a c
+says-after : (a b c : Option (List ℕ)) (xs ys : List TicketParts) (r : Result (Unit {0}) Fault) → Appends a b (plan_lines xs) → SaysLines ys r b c → SaysLines (xs ++ ys) r a c
 says-after a b c xs ys (Ok _) whole said = lines-after a b c xs ys whole said
 says-after a b c xs ys (Err OutOfMemory) whole said = lines-after a b c xs ys whole said
 says-after a b c xs ys (Err (BadPlanFile place cause)) whole said = lines-after a b c xs ys whole said
@@ -73,12 +73,12 @@ says-after a b c xs ys (Err WriteFault) whole ends = record {
       (up-to-after a b c (plan_lines xs) (plan_lines ends.before) (plan_line ends.last.number) whole ends.said);
 }
 
-plans_of-append : (xs ys : List Told) → plans_of (xs ++ ys) ≡ plans_of xs ++ plans_of ys
+plans_of-append : (xs ys : List TicketParts) → plans_of (xs ++ ys) ≡ plans_of xs ++ plans_of ys
 plans_of-append [] ys = refl
 plans_of-append (x ∷ xs) ys = ap (λ ps. x.plan ∷ ps) (plans_of-append xs ys)
 
 -- no plans were published yet
-pub published-none : (store : Shelves) (tickets : List Told) (err : Option (List ℕ)) → PublishesFront store [] tickets tickets err err (Ok tt)
+pub published-none : (store : Shelves) (tickets : List TicketParts) (err : Option (List ℕ)) → PublishesPrefix store [] tickets tickets err err (Ok tt)
 published-none store tickets err = record {
   published = [];
   more = [];
@@ -90,7 +90,7 @@ published-none store tickets err = record {
 }
 
 -- there was no memory for a plan
-pub published-not : (store : Shelves) (plan : Plan) (tickets : List Told) (err : Option (List ℕ)) → PublishesFront store (plan ∷ []) tickets tickets err err (Err OutOfMemory)
+pub published-not : (store : Shelves) (plan : Plan) (tickets : List TicketParts) (err : Option (List ℕ)) → PublishesPrefix store (plan ∷ []) tickets tickets err err (Err OutOfMemory)
 published-not store plan tickets err = record {
   published = [];
   more = plan ∷ [];
@@ -102,9 +102,9 @@ published-not store plan tickets err = record {
 }
 
 -- a plan was published, and its line written
-pub published-told : (store : Shelves) (ticket : Told) (plan : Plan) (tickets : List Told) (a b : Option (List ℕ)) → IsOf store ticket → ticket.plan ≡ plan
-    → Appends a b (plan_line ticket.number) → PublishesFront store (plan ∷ []) tickets (tickets ++ ticket ∷ []) a b (Ok tt)
-published-told store ticket plan tickets a b here shows said = record {
+pub published-reported : (store : Shelves) (ticket : TicketParts) (plan : Plan) (tickets : List TicketParts) (a b : Option (List ℕ)) → IsOf store ticket → ticket.plan ≡ plan
+    → Appends a b (plan_line ticket.number) → PublishesPrefix store (plan ∷ []) tickets (tickets ++ ticket ∷ []) a b (Ok tt)
+published-reported store ticket plan tickets a b here shows said = record {
   published = ticket ∷ [];
   more = [];
   grown = refl;
@@ -115,9 +115,9 @@ published-told store ticket plan tickets a b here shows said = record {
 }
 
 -- a plan was published, and its line not written
-pub published-untold : (store : Shelves) (ticket : Told) (plan : Plan) (tickets : List Told) (a b : Option (List ℕ)) → IsOf store ticket → ticket.plan ≡ plan
-    → AppendsPrefix a b (plan_line ticket.number) → PublishesFront store (plan ∷ []) tickets (tickets ++ ticket ∷ []) a b (Err WriteFault)
-published-untold store ticket plan tickets a b here shows said = record {
+pub published-unsaid : (store : Shelves) (ticket : TicketParts) (plan : Plan) (tickets : List TicketParts) (a b : Option (List ℕ)) → IsOf store ticket → ticket.plan ≡ plan
+    → AppendsPart a b (plan_line ticket.number) → PublishesPrefix store (plan ∷ []) tickets (tickets ++ ticket ∷ []) a b (Err WriteFault)
+published-unsaid store ticket plan tickets a b here shows said = record {
   published = ticket ∷ [];
   more = [];
   grown = refl;
@@ -128,8 +128,8 @@ published-untold store ticket plan tickets a b here shows said = record {
 }
 
 -- plans after others that were all published
-pub published-then : (store : Shelves) (xs ys : List Plan) (ts us vs : List Told) (a b c : Option (List ℕ)) (r : Result (Unit {0}) Fault)
-    → PublishesFront store xs ts us a b (Ok tt) → PublishesFront store ys us vs b c r → PublishesFront store (xs ++ ys) ts vs a c r
+pub published-then : (store : Shelves) (xs ys : List Plan) (ts us vs : List TicketParts) (a b c : Option (List ℕ)) (r : Result (Unit {0}) Fault)
+    → PublishesPrefix store xs ts us a b (Ok tt) → PublishesPrefix store ys us vs b c r → PublishesPrefix store (xs ++ ys) ts vs a c r
 published-then store xs ys ts us vs a b c r p q =
     let all : xs ≡ plans_of p.published = p.parts ∙ ap (λ m. plans_of p.published ++ m) p.left ∙ append-nil (plans_of p.published) in
     record {
@@ -150,9 +150,9 @@ left-more xs ys ReadFault left = left
 left-more xs ys WriteFault left = tt
 
 -- where publishing stopped, the later plans remain too
-pub published-front : (store : Shelves) (xs ys : List Plan) (ts us : List Told) (a b : Option (List ℕ)) (fault : Fault)
-    → PublishesFront store xs ts us a b (Err fault) → PublishesFront store (xs ++ ys) ts us a b (Err fault)
-published-front store xs ys ts us a b fault p = record {
+pub published-prefix : (store : Shelves) (xs ys : List Plan) (ts us : List TicketParts) (a b : Option (List ℕ)) (fault : Fault)
+    → PublishesPrefix store xs ts us a b (Err fault) → PublishesPrefix store (xs ++ ys) ts us a b (Err fault)
+published-prefix store xs ys ts us a b fault p = record {
   published = p.published;
   more = p.more ++ ys;
   grown = p.grown;
@@ -169,7 +169,7 @@ abbrev stopped : Fault → Result (Unit {0}) Fault
 stopped fault = Err fault
 
 -- a message after lines
-message-after : (a b c : Option (List ℕ)) (name : List ℕ) (published : List Told) (fault result : Fault) → Appends a b (plan_lines published) → fault ≢ WriteFault
+message-after : (a b c : Option (List ℕ)) (name : List ℕ) (published : List TicketParts) (fault result : Fault) → Appends a b (plan_lines published) → fault ≢ WriteFault
     → IsMessage (message_on name fault) fault result b c → IsSaid name published (Err fault) (Err result) a c
 message-after a b c name published fault result lines other (Written is all) =
     Whole (ap stopped is) (λ e. other (let same : fault ≡ WriteFault = cc in same)) (Appends-trans a b c (plan_lines published) (message_on name fault) lines all)
@@ -181,7 +181,7 @@ message-after a b c name published fault result lines other (Cut is part) =
     }
 
 -- after a line that could not be written nothing more is said
-line-still : (a b c : Option (List ℕ)) (published : List Told) → EndsInLine published a b → Appends b c [] → EndsInLine published a c
+line-still : (a b c : Option (List ℕ)) (published : List TicketParts) → EndsInLine published a b → Appends b c [] → EndsInLine published a c
 line-still a b c published ends still = record {
   before = ends.before;
   last = ends.last;
@@ -193,7 +193,7 @@ line-still a b c published ends still = record {
   };
 }
 
-says-message : (a b c : Option (List ℕ)) (name : List ℕ) (published : List Told) (fault result : Fault) → SaysLines published (stopped fault) a b
+says-message : (a b c : Option (List ℕ)) (name : List ℕ) (published : List TicketParts) (fault result : Fault) → SaysLines published (stopped fault) a b
     → IsMessage (message_on name fault) fault result b c → IsSaid name published (stopped fault) (stopped result) a c
 says-message a b c name published OutOfMemory result said message = message-after a b c name published OutOfMemory result said (λ e. cc) message
 says-message a b c name published (BadPlanFile place cause) result said message = message-after a b c name published (BadPlanFile place cause) result said (λ e. cc) message
@@ -202,7 +202,7 @@ says-message a b c name published WriteFault result said (Written is all) = InLi
 says-message a b c name published WriteFault result said (Cut is part) = absurd (omega (arith, part.fewer))
 
 -- a file that was not loaded, and why
-pub loads-refused : (store : Shelves) (name : List ℕ) (x y : Option Coming) (ts us : List Told) (a b c : Option (List ℕ)) (fault result : Fault)
+pub loads-refused : (store : Shelves) (name : List ℕ) (x y : Option Coming) (ts us : List TicketParts) (a b c : Option (List ℕ)) (fault result : Fault)
     → LoadsFile store x y ts us a b (Err fault) → IsMessage (message_on name fault) fault result b c → Loads store name x y ts us a c (Err result)
 loads-refused store name x y ts us a b c fault result loads said = record {
   published = loads.published;
@@ -214,7 +214,7 @@ loads-refused store name x y ts us a b c fault result loads said = record {
 }
 
 -- a file that was loaded
-pub loads-done : (store : Shelves) (name : List ℕ) (x y : Option Coming) (ts us : List Told) (a b : Option (List ℕ)) → LoadsFile store x y ts us a b (Ok tt) → Loads store name x y ts us a b (Ok tt)
+pub loads-done : (store : Shelves) (name : List ℕ) (x y : Option Coming) (ts us : List TicketParts) (a b : Option (List ℕ)) → LoadsFile store x y ts us a b (Ok tt) → Loads store name x y ts us a b (Ok tt)
 loads-done store name x y ts us a b loads = record {
   published = loads.published;
   answer = Ok tt;
@@ -245,7 +245,7 @@ first-fault (Some c) fault place cause is wrong shown = record {
 }
 
 -- no plan of a file that was not read is published
-pub loads-unread : (store : Shelves) (x y : Option Coming) (ts : List Told) (err : Option (List ℕ)) (fault : Fault) → IsReadersFault fault
+pub loads-unread : (store : Shelves) (x y : Option Coming) (ts : List TicketParts) (err : Option (List ℕ)) (fault : Fault) → IsReadersFault fault
     → IfSome x (λ c. (p : ℕ) (q : Cause) → unread fault ≡ unread (BadPlanFile p q) → IsFirstFault c.text p q)
     → IfSome x (λ c. c.ending ≡ Faulty → (p : ℕ) (q : Cause) → unread fault ≡ unread (BadPlanFile p q) → (more : List ℕ) → IsFirstFault (c.text ++ more) p q)
     → LoadsFile store x y ts ts err err (stopped fault)
@@ -362,7 +362,7 @@ unread-said name a b result (Written is all) = inl (ap stopped is)
 unread-said name a b result (Cut is part) = inr (ap stopped is)
 
 -- a message alone, where nothing was opened and so nothing loaded
-pub missing-loads : {I : Type 0} (coming : I → Option Coming) (store : Shelves) (name : List ℕ) (sources : Option Sources) (ts : List Told) (a b : Option (List ℕ)) (e : Missing) (result : Fault)
+pub missing-loads : {I : Type 0} (coming : I → Option Coming) (store : Shelves) (name : List ℕ) (sources : Option Sources) (ts : List TicketParts) (a b : Option (List ℕ)) (e : Missing) (result : Fault)
     → IfSome sources (λ s. OpensAs coming (source_of name s.named) (unopened I e)) → IsMessage (message_on name ReadFault) ReadFault result a b
     → LoadsNamed store name sources ts ts a b (stopped result)
 missing-loads coming store name sources ts a b e result opens said =
@@ -379,5 +379,5 @@ missing-loads coming store name sources ts a b e result opens said =
       coming_new = None;
       loads = loads;
       source = named-missing coming sources name e (IsUnopened ts ts (Err ReadFault) (stopped result)) (stopped result) opens
-          record { told = refl; unread = unread-said name a b result said; none = refl };
+          record { reported = refl; unread = unread-said name a b result said; none = refl };
     }

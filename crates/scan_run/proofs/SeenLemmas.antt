@@ -2,12 +2,12 @@
 -- loaded plans.
 use Rattle.std.proofs.Common.{◌≡◌, ◌≢◌, ℕ, List, [], ◌∷◌, Option, inl, inr, refl, sym, ap, ◌∙◌, subst}
 use Rattle.byte_io.specs.Devices.{Coming}
-use Rattle.plan_store.specs.Tickets.{Told}
+use Rattle.plan_store.specs.Tickets.{TicketParts}
 use Rattle.scan_wire.specs.Messages.{ReplyParts, RequestParts}
 use Rattle.scan_serve.specs.declared.ended.Ended.{Ended}
 use Rattle.scan_serve.specs.declared.ended.Ended.TheVariants as ended
-use Rattle.scan_serve.specs.Answering.{AnswersText, AnswersTextFront, Run, Step}
-use Rattle.scan_serve.specs.Serving.{EndsAs, IsServed, IsServedFront}
+use Rattle.scan_serve.specs.Answering.{AnswersText, AnswersTextPrefix, Run, Step}
+use Rattle.scan_serve.specs.Serving.{EndsAs, IsServed, IsServedPrefix}
 use Rattle.scan_core.specs.Carried.{IsEventOf, IsSeen}
 use Rattle.scan_core.specs.Sessions.{IsEvent, Serving, parts_of}
 use Rattle.scan_core.specs.Steps.{SessionParts}
@@ -38,10 +38,10 @@ text_carried step onto Seen carries s t b v w text rest last seen a =
     let run = run_carried step onto Seen carries s t b a.requests a.replies seen a.run in
     (run.0, run.1, record { requests = a.requests; replies = a.replies; are_requests = a.are_requests; text_is = a.text_is; run = run.2; written = a.written })
 
--- and a front of the replies to one
-front_carried : {S T : Type 0} (step : Step S) (onto : Step T) (Seen : S → T → Type 0) → Carries step onto Seen
-    → (s : S) (b : T) (v w : Option (List ℕ)) (text : List ℕ) → Seen s b → AnswersTextFront step s v w text → AnswersTextFront onto b v w text
-front_carried step onto Seen carries s b v w text seen a =
+-- and a prefix of the replies to one
+prefix_carried : {S T : Type 0} (step : Step S) (onto : Step T) (Seen : S → T → Type 0) → Carries step onto Seen
+    → (s : S) (b : T) (v w : Option (List ℕ)) (text : List ℕ) → Seen s b → AnswersTextPrefix step s v w text → AnswersTextPrefix onto b v w text
+prefix_carried step onto Seen carries s b v w text seen a =
     let run = run_carried step onto Seen carries s a.new b a.requests a.replies seen a.run in
     record {
       requests = a.requests;
@@ -65,10 +65,10 @@ served_carried step onto Seen carries s t b c d v w held rest last seen a =
     let text = text_carried step onto Seen carries s t b v w _ rest last seen a.answers in
     (text.0, text.1, record { bytes = a.bytes; read = a.read; answers = text.2 })
 
-served_front_carried : {S T : Type 0} (step : Step S) (onto : Step T) (Seen : S → T → Type 0) → Carries step onto Seen
-    → (s : S) (b : T) (c d : Option Coming) (v w : Option (List ℕ)) (held : List ℕ) → Seen s b → IsServedFront step s c d v w held → IsServedFront onto b c d v w held
-served_front_carried step onto Seen carries s b c d v w held seen a =
-    record { bytes = a.bytes; read = a.read; answers = front_carried step onto Seen carries s b v w _ seen a.answers }
+served_prefix_carried : {S T : Type 0} (step : Step S) (onto : Step T) (Seen : S → T → Type 0) → Carries step onto Seen
+    → (s : S) (b : T) (c d : Option Coming) (v w : Option (List ℕ)) (held : List ℕ) → Seen s b → IsServedPrefix step s c d v w held → IsServedPrefix onto b c d v w held
+served_prefix_carried step onto Seen carries s b c d v w held seen a =
+    record { bytes = a.bytes; read = a.read; answers = prefix_carried step onto Seen carries s b v w _ seen a.answers }
 
 -- each ending; the state is still seen, unless a write failed or memory ran out
 ends_carried : {S T : Type 0} (step : Step S) (onto : Step T) (Seen : S → T → Type 0) → Carries step onto Seen
@@ -87,9 +87,9 @@ ends_carried step onto Seen carries s t b c d v w held ended.ReadFault seen (res
     let served = served_carried step onto Seen carries s t b c d v w held rest [] seen is in
     (served.0, (λ written memory. served.1), (rest, waits, served.2))
 ends_carried step onto Seen carries s t b c d v w held ended.WriteFault seen a =
-    (b, (λ written memory. absurd (written refl)), served_front_carried step onto Seen carries s b c d v w held seen a)
-ends_carried step onto Seen carries s t b c d v w held ended.OutOfMemory seen (inl front) =
-    (b, (λ written memory. absurd (memory refl)), inl (served_front_carried step onto Seen carries s b c d v w held seen front))
+    (b, (λ written memory. absurd (written refl)), served_prefix_carried step onto Seen carries s b c d v w held seen a)
+ends_carried step onto Seen carries s t b c d v w held ended.OutOfMemory seen (inl prefix) =
+    (b, (λ written memory. absurd (memory refl)), inl (served_prefix_carried step onto Seen carries s b c d v w held seen prefix))
 ends_carried step onto Seen carries s t b c d v w held ended.OutOfMemory seen (inr untouched) = (b, (λ written memory. absurd (memory refl)), inr untouched)
 
 -- where the state is a function of what it is seen as, it ends in that
@@ -119,16 +119,16 @@ ends_seen s t b c d v w held end seen a =
 -- ---- beside loaded plans
 
 -- a session with the tickets, and the session alone
-record IsBeside (loaded : List Told) (state : Beside) (s : Serving) : Type 0 where
+record IsBeside (loaded : List TicketParts) (state : Beside) (s : Serving) : Type 0 where
   pub session : s ≡ state.session
   pub tickets : state.loaded ≡ loaded
 
-beside_alone : (loaded : List Told) → Carries IsStepBeside (IsEventBeside loaded) (IsBeside loaded)
+beside_alone : (loaded : List TicketParts) → Carries IsStepBeside (IsEventBeside loaded) (IsBeside loaded)
 beside_alone loaded s mid b r replies seen step = (
   mid.session,
   record { session = refl; tickets = step.kept ∙ seen.tickets },
   subst (λ (x : Serving). IsEventBeside loaded x r replies mid.session) (sym seen.session)
-      (subst (λ (ts : List Told). IsEventBeside ts s.session r replies mid.session) seen.tickets step.event),
+      (subst (λ (ts : List TicketParts). IsEventBeside ts s.session r replies mid.session) seen.tickets step.event),
 )
 
 pub ends_beside : (s t : Beside) (c d : Option Coming) (v w : Option (List ℕ)) (held : List ℕ) (end : Ended) → EndsAs IsStepBeside s t c d v w held end
@@ -139,10 +139,10 @@ ends_beside s t c d v w held end a =
 
 -- ---- what is left of the tickets
 
-alone : (loaded : List Told) → Carries (IsEventBeside loaded) IsEvent (λ s b. b ≡ s)
+alone : (loaded : List TicketParts) → Carries (IsEventBeside loaded) IsEvent (λ s b. b ≡ s)
 alone loaded s mid b r replies seen step = (mid, refl, subst (λ (x : Serving). IsEvent x r replies mid) (sym seen) step.event)
 
-pub ends_alone : (loaded : List Told) (s t : Serving) (c d : Option Coming) (v w : Option (List ℕ)) (held : List ℕ) (end : Ended) → EndsAs (IsEventBeside loaded) s t c d v w held end
+pub ends_alone : (loaded : List TicketParts) (s t : Serving) (c d : Option Coming) (v w : Option (List ℕ)) (held : List ℕ) (end : Ended) → EndsAs (IsEventBeside loaded) s t c d v w held end
     → EndsAs IsEvent s t c d v w held end
 ends_alone loaded s t c d v w held end a =
     let ends = ends_carried (IsEventBeside loaded) IsEvent (λ s b. b ≡ s) (alone loaded) s t s c d v w held end refl a in

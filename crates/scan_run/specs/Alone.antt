@@ -2,7 +2,7 @@
 use Rattle.std.specs.Prelude.{◌≡◌, ℕ, ◌+◌, ◌^◌, ◌≤◌, ◌⊎◌, Bool, IsTrue, List, [], Option}
 use Rattle.byte_io.specs.Devices.{Coming}
 use Rattle.boxcar.specs.Table.{Shelves}
-use Rattle.plan_store.specs.Tickets.{Told}
+use Rattle.plan_store.specs.Tickets.{TicketParts}
 use Rattle.scan_serve.specs.declared.ended.Ended.{Ended}
 use Rattle.scan_serve.specs.declared.ended.Ended.TheVariants as ending
 use Rattle.scan_serve.specs.Serving.{EndsAs}
@@ -17,10 +17,10 @@ MayHaveFailed failed given_old given_new = IsTrue failed ⊎ (given_old + 2 ^ 40
 
 -- A stream was served as a session of the store, beside the loaded plans, and the status says how it ended. A fault is
 -- how it ended only where a read or a write may have failed.
-pub record EndsAlone (store : Shelves) (loaded : List Told) (status : Status) (read_fault : Type 0) (out_failed : Bool) (coming_old coming_new : Option Coming) (out_old out_new : Option (List ℕ)) : Type 0 where
+pub record EndsAlone (store : Shelves) (loaded : List TicketParts) (status : Status) (read_fault : Type 0) (out_failed : Bool) (coming_old coming_new : Option Coming) (out_old out_new : Option (List ℕ)) : Type 0 where
   pub after : Serving
   pub ended : Ended
   pub ends : EndsAs (IsEventBeside loaded) (fresh store) after coming_old coming_new out_old out_new [] ended
   pub unread : ended ≡ ending.ReadFault → read_fault
   pub unwritten : ended ≡ ending.WriteFault → IsTrue out_failed
-  pub told : status ≡ status_of ended
+  pub reported : status ≡ status_of ended

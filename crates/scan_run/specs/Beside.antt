@@ -1,17 +1,17 @@
 -- A session beside plans that were published before it, known by their tickets.
 use Rattle.std.specs.Prelude.{◌≡◌, ℕ, List, [], ◌∷◌, Some, ⊤}
 use Rattle.std.specs.List.{slice_get}
-use Rattle.plan_store.specs.Tickets.{Told}
+use Rattle.plan_store.specs.Tickets.{TicketParts}
 use Rattle.scan_wire.specs.Messages.{Close, Closed, Fed, Feed, Hits, Open, Opened, Plan, Publish, Published, Refused, ReplyParts, RequestParts, ShowPlan}
 use Rattle.scan_core.specs.Sessions.{IsEvent, Serving}
 use Rattle.scan_core.specs.Together.{AgreesWith}
 
 -- a number shows one plan, in these tickets and in a session
-abbrev pub AgreeOn : List Told → ℕ → Serving → Type 0
-AgreeOn loaded number s = (place : ℕ) (ticket : Told) → slice_get loaded place ≡ Some ticket → ticket.number ≡ number → AgreesWith ticket s
+abbrev pub AgreeOn : List TicketParts → ℕ → Serving → Type 0
+AgreeOn loaded number s = (place : ℕ) (ticket : TicketParts) → slice_get loaded place ≡ Some ticket → ticket.number ≡ number → AgreesWith ticket s
 
 -- so does the number of a plan that was published
-abbrev pub AgreeReplied : List Told → List ReplyParts → Serving → Type 0
+abbrev pub AgreeReplied : List TicketParts → List ReplyParts → Serving → Type 0
 AgreeReplied loaded [] s = ⊤
 AgreeReplied loaded (Published number ∷ replies) s = AgreeOn loaded number s
 AgreeReplied loaded (Opened stream ∷ replies) s = ⊤
@@ -22,7 +22,7 @@ AgreeReplied loaded (Plan stream fold profile count cost ends ∷ replies) s = �
 AgreeReplied loaded (Refused stream code detail ∷ replies) s = ⊤
 
 -- the number of a plan that the session gains shows one plan
-abbrev pub AgreeAfter : List Told → RequestParts → List ReplyParts → Serving → Type 0
+abbrev pub AgreeAfter : List TicketParts → RequestParts → List ReplyParts → Serving → Type 0
 AgreeAfter loaded (Publish fold profile literals) replies after = AgreeReplied loaded replies after
 AgreeAfter loaded (Open stream number) replies after = AgreeOn loaded number after
 AgreeAfter loaded (Feed stream piece) replies after = ⊤
@@ -30,7 +30,7 @@ AgreeAfter loaded (Close stream) replies after = ⊤
 AgreeAfter loaded (ShowPlan stream) replies after = ⊤
 
 -- A request is one event of a session. A plan that it gains by this has no number of another loaded plan.
-pub record IsEventBeside (loaded : List Told) (before : Serving) (request : RequestParts) (replies : List ReplyParts) (after : Serving) : Type 0 where
+pub record IsEventBeside (loaded : List TicketParts) (before : Serving) (request : RequestParts) (replies : List ReplyParts) (after : Serving) : Type 0 where
   pub event : IsEvent before request replies after
   pub agreed : AgreeAfter loaded request replies after
 
@@ -38,7 +38,7 @@ pub record IsEventBeside (loaded : List Told) (before : Serving) (request : Requ
 
 pub record Beside : Type 0 where
   pub session : Serving
-  pub loaded : List Told
+  pub loaded : List TicketParts
 
 pub record IsStepBeside (before : Beside) (request : RequestParts) (replies : List ReplyParts) (after : Beside) : Type 0 where
   pub event : IsEventBeside before.loaded before.session request replies after.session

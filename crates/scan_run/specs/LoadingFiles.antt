@@ -6,7 +6,7 @@ use Rattle.boxcar.specs.Table.{Shelves}
 use Rattle.byte_io.specs.Devices as devices
 use Rattle.byte_io.specs.Sources.{Named, Sources, after}
 use Rattle.plan_file.specs.declared.fault.Fault.{Fault}
-use Rattle.plan_store.specs.Tickets.{Told}
+use Rattle.plan_store.specs.Tickets.{TicketParts}
 use Rattle.scan_run.specs.Loading.{LoadsNamed}
 
 -- the names of the files, as bytes
@@ -16,17 +16,17 @@ names_of names = map string_bytes names
 -- what loading changes: the files still to be opened, the tickets gained, and what was written on standard error
 pub record Loading : Type 0 where
   pub files : Option Sources
-  pub tickets : List Told
+  pub tickets : List TicketParts
   pub said : Option (List ℕ)
 
-abbrev pub state : Option Sources → List Told → Option (List ℕ) → Loading
+abbrev pub state : Option Sources → List TicketParts → Option (List ℕ) → Loading
 state files tickets said = record { files = files; tickets = tickets; said = said }
 
 -- the one file that was asked for is that of a name
 abbrev pub AsksFor : List ℕ → Option Sources → Option Sources → Type 0
-AsksFor name old new = devices.Told old new (λ x y. y ≡ after (Named name) x)
+AsksFor name old new = devices.IfKnown old new (λ x y. y ≡ after (Named name) x)
 
--- one file was loaded, or not, as the result tells
+-- one file was loaded, or not, by the result
 pub record LoadsOne (store : Shelves) (name : List ℕ) (old new : Loading) (result : Result (Unit {0}) Fault) : Type 0 where
   pub takes : AsksFor name old.files new.files
   pub loads : LoadsNamed store name old.files old.tickets new.tickets old.said new.said result

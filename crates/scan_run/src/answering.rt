@@ -1,7 +1,7 @@
 //! Answering the requests of a session beside plans that were published before it.
 ghost use Rattle.std.specs.Prelude.{◌≡◌, ◌≢◌, [], ◌∷◌, All, IsTrue, OnErr, OnOk};
 ghost use Rattle.plan_store.specs.Tickets.{IsOf};
-ghost use Rattle.scan_wire.specs.Messages.{Open, Publish, ShowPlan, lent_parts, reply_parts, texts_of};
+ghost use Rattle.scan_wire.specs.Messages.{Open, Publish, ShowPlan, borrowed_parts, reply_parts, texts_of};
 ghost use Rattle.scan_serve.specs.Answering.{Answered, Stopped};
 ghost use Rattle.scan_core.specs.Sessions.{IsEvent};
 ghost use Rattle.scan_core.specs.Together.{AgreesWith};
@@ -14,7 +14,7 @@ use lit_base::{Fold, Profile};
 use plan_store::Ticket;
 use scan_core::{Session, agrees_with};
 use scan_serve::{Outbox, Stop};
-use scan_wire::{Lent, Reply};
+use scan_wire::{Borrowed, Reply};
 use std::alloc::Global;
 use std::sync::Wait;
 
@@ -58,35 +58,35 @@ pub(crate) fn answer_request<R: Wait, W: ByteOut>(
     session: &mut Session<'_>,
     loaded: &[Ticket],
     hits: &mut Vec<Hit>,
-    request: Lent<'_>,
+    request: Borrowed<'_>,
     outbox: &mut Outbox,
     out: &mut W,
 ) -> Result<(), Stop>
     requires { All (IsOf session.old.store) loaded.now }
-    ensures ok { OnOk result (Answered (IsEventBeside loaded.now) session.old session.new (lent_parts request.entry)
+    ensures ok { OnOk result (Answered (IsEventBeside loaded.now) session.old session.new (borrowed_parts request.entry)
         (W.written out.old) (W.written out.new) outbox.old outbox.new) }
-    ensures err { OnErr result (Stopped (IsEventBeside loaded.now) session.old (lent_parts request.entry)
+    ensures err { OnErr result (Stopped (IsEventBeside loaded.now) session.old (borrowed_parts request.entry)
         (W.written out.old) (W.written out.new) outbox.old) }
     ensures fault { result ≡ Err Stop.WriteFault → IsTrue (W.has_failed out.new) }
     ensures flag { result ≢ Err Stop.WriteFault → W.has_failed out.new ≡ W.has_failed out.old }
     ensures store { session.new.store ≡ session.old.store }
 {
     match request {
-        Lent::Feed { stream, bytes } => {
+        Borrowed::Feed { stream, bytes } => {
             answer_feed(alloc, session, hits, stream, bytes, outbox, out)
         }
-        Lent::Publish {
+        Borrowed::Publish {
             fold,
             profile,
             literals,
         } => answer_publish(
             rt, alloc, session, loaded, fold, profile, &literals, outbox, out,
         ),
-        Lent::Open { stream, number } => {
+        Borrowed::Open { stream, number } => {
             answer_open(alloc, session, loaded, stream, number, outbox, out)
         }
-        Lent::Close { stream } => outbox.push(out, &session.close(stream)),
-        Lent::ShowPlan { stream } => answer_show_plan(session, stream, outbox, out),
+        Borrowed::Close { stream } => outbox.push(out, &session.close(stream)),
+        Borrowed::ShowPlan { stream } => answer_show_plan(session, stream, outbox, out),
     }
 }
 

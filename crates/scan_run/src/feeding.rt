@@ -3,12 +3,12 @@ ghost use Rattle.std.specs.Prelude.{◌≡◌, ◌≢◌, ◌<◌, length, IfErr
 ghost use Rattle.scan_wire.specs.Messages.{Feed};
 ghost use Rattle.scan_wire.specs.declared.message.TheConstants.{MAX_HITS};
 ghost use Rattle.scan_serve.specs.Answering.{Answered, Stopped};
-ghost use Rattle.scan_core.specs.Fronts.{MayFeed};
+ghost use Rattle.scan_core.specs.Prefixes.{MayFeed};
 ghost use Rattle.scan_core.specs.Sessions.{IsEvent, by_tails, parts_of};
 ghost use Rattle.scan_core.specs.Steps.{refusal_of};
 ghost use Rattle.scan_run.specs.Feeding.{FeedsOn, StopsFeeding};
 
-use crate::telling::{tell_full, tell_last};
+use crate::sending::{send_full, send_last};
 use byte_io::ByteOut;
 use flow_scan::Hit;
 use scan_core::Session;
@@ -38,10 +38,10 @@ fn feed_on<W: ByteOut>(
     ensures store { session.new.store ≡ session.old.store }
 {
     let most = MAX_HITS - hits.len();
-    let Ok(count) = session.feed_front(alloc, stream, piece, most, hits) else {
+    let Ok(count) = session.feed_prefix(alloc, stream, piece, most, hits) else {
         return Err(Stop::OutOfMemory);
     };
-    tell_full(stream, hits, outbox, out)?;
+    send_full(stream, hits, outbox, out)?;
     Ok(count)
 }
 
@@ -72,7 +72,7 @@ fn feed_whole<W: ByteOut>(
         let (_, after) = rest.split_at(count);
         rest = after;
     }
-    tell_last(stream, hits, place, outbox, out)
+    send_last(stream, hits, place, outbox, out)
 }
 
 /// Answers a Feed: the hits of the piece in replies that are all full except the last, written as they are found, and

@@ -11,9 +11,9 @@ mod loading;
 mod loading_files;
 mod port;
 mod report;
+mod sending;
 mod serving;
 mod status;
-mod telling;
 
 pub use alone::serve_alone;
 pub use connections::{Connections, MAX_CONNECTIONS, connections_law};

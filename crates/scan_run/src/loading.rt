@@ -1,10 +1,10 @@
 //! Plans published from a plan file, before anything is served.
 ghost use Rattle.std.specs.Prelude.{◌≡◌, ◌≢◌, ◌++◌, ◌∷◌, ◌||◌, [], IfSome, IsTrue, OnErr, OnOk, is_err};
 ghost use Rattle.std.specs.Io.KnownBytes.{Appends};
-ghost use Rattle.byte_io.specs.Devices.{Told};
+ghost use Rattle.byte_io.specs.Devices.{IfKnown};
 ghost use Rattle.byte_io.specs.Sources.{Named, after};
-ghost use Rattle.byte_io.specs.Transfers.{AppendsPrefix};
-ghost use Rattle.scan_run.specs.Loading.{Judges, Loads, LoadsAll, LoadsFile, LoadsNamed, PublishesFront, IsMessage, is_write_fault, message_on, plan_line};
+ghost use Rattle.byte_io.specs.Transfers.{AppendsPart};
+ghost use Rattle.scan_run.specs.Loading.{Judges, Loads, LoadsAll, LoadsFile, LoadsNamed, PublishesPrefix, IsMessage, is_write_fault, message_on, plan_line};
 
 use byte_io::{ByteIn, ByteOut, Failed, Missing, Opener, write_all};
 use flow_scan::Compiled;
@@ -89,7 +89,7 @@ pub fn load_named<R: Wait, F: Opener, E: ByteOut>(
     tickets: &mut Vec<Ticket>,
     err: &mut E,
 ) -> Result<(), Fault>
-    ensures takes { Told (F.sources files.old) (F.sources files.new) (λ old new. new ≡ after (Named name.now) old) }
+    ensures takes { IfKnown (F.sources files.old) (F.sources files.new) (λ old new. new ≡ after (Named name.now) old) }
     ensures loads { LoadsNamed store.now name.now (F.sources files.old) tickets.old.items tickets.new.items (E.written err.old) (E.written err.new) result }
     ensures broken { result ≡ Err Fault.WriteFault → IsTrue (E.has_failed err.new) }
     ensures flag { result ≢ Err Fault.WriteFault → E.has_failed err.new ≡ E.has_failed err.old }
@@ -148,7 +148,7 @@ fn publish_plans<R: Wait, E: ByteOut>(
     tickets: &mut Vec<Ticket>,
     err: &mut E,
 ) -> Result<(), Fault>
-    ensures front { PublishesFront store.now plans.items tickets.old.items tickets.new.items (E.written err.old) (E.written err.new) result }
+    ensures prefix { PublishesPrefix store.now plans.items tickets.old.items tickets.new.items (E.written err.old) (E.written err.new) result }
     ensures flag { E.has_failed err.new ≡ (E.has_failed err.old || is_write_fault result) }
 {
     for plan in plans {
@@ -165,7 +165,7 @@ fn publish_plan<R: Wait, E: ByteOut>(
     tickets: &mut Vec<Ticket>,
     err: &mut E,
 ) -> Result<(), Fault>
-    ensures front { PublishesFront store.now (plan ∷ []) tickets.old.items tickets.new.items (E.written err.old) (E.written err.new) result }
+    ensures prefix { PublishesPrefix store.now (plan ∷ []) tickets.old.items tickets.new.items (E.written err.old) (E.written err.new) result }
     ensures flag { E.has_failed err.new ≡ (E.has_failed err.old || is_write_fault result) }
 {
     tickets.reserve(1)?;
@@ -183,7 +183,7 @@ fn publish_plan<R: Wait, E: ByteOut>(
 /// Writes the line of a plan's number.
 fn say_number<E: ByteOut>(number: u64, err: &mut E) -> Result<(), Failed>
     ensures ok { OnOk result (Appends (E.written err.old) (E.written err.new) (plan_line number)) }
-    ensures err { OnErr result (AppendsPrefix (E.written err.old) (E.written err.new) (plan_line number)) }
+    ensures err { OnErr result (AppendsPart (E.written err.old) (E.written err.new) (plan_line number)) }
     ensures flag { E.has_failed err.new ≡ (E.has_failed err.old || is_err result) }
 {
     let mut digits = Buffer::new();
@@ -197,16 +197,16 @@ fn say_number<E: ByteOut>(number: u64, err: &mut E) -> Result<(), Failed>
 
 /// Writes a line that stands in three parts, for which it needs no memory.
 pub(crate) fn say<E: ByteOut>(
-    front: &[u8],
+    prefix: &[u8],
     middle: &[u8],
     end: &[u8],
     err: &mut E,
 ) -> Result<(), Failed>
-    ensures ok { OnOk result (Appends (E.written err.old) (E.written err.new) (front.now ++ (middle.now ++ end.now))) }
-    ensures err { OnErr result (AppendsPrefix (E.written err.old) (E.written err.new) (front.now ++ (middle.now ++ end.now))) }
+    ensures ok { OnOk result (Appends (E.written err.old) (E.written err.new) (prefix.now ++ (middle.now ++ end.now))) }
+    ensures err { OnErr result (AppendsPart (E.written err.old) (E.written err.new) (prefix.now ++ (middle.now ++ end.now))) }
     ensures flag { E.has_failed err.new ≡ (E.has_failed err.old || is_err result) }
 {
-    write_all(err, front)?;
+    write_all(err, prefix)?;
     write_all(err, middle)?;
     write_all(err, end)
 }

@@ -1,7 +1,7 @@
-//! Telling the port that the system chose.
+//! Reporting the port that the system chose.
 ghost use Rattle.std.specs.Prelude.{◌≡◌, ◌||◌, OnErr, OnOk, is_err};
 ghost use Rattle.std.specs.Io.KnownBytes.{Appends};
-ghost use Rattle.byte_io.specs.Transfers.{AppendsPrefix};
+ghost use Rattle.byte_io.specs.Transfers.{AppendsPart};
 ghost use Rattle.scan_run.specs.Messages.{port_line};
 
 use crate::loading::say;
@@ -14,7 +14,7 @@ use itoa::Buffer;
 /// `Failed` where a write failed: a prefix of the line was written, and not all.
 pub fn say_port<E: ByteOut>(port: u16, err: &mut E) -> Result<(), Failed>
     ensures ok { OnOk result (Appends (E.written err.old) (E.written err.new) (port_line port)) }
-    ensures err { OnErr result (AppendsPrefix (E.written err.old) (E.written err.new) (port_line port)) }
+    ensures err { OnErr result (AppendsPart (E.written err.old) (E.written err.new) (port_line port)) }
     ensures flag { E.has_failed err.new ≡ (E.has_failed err.old || is_err result) }
 {
     say_line(u64::from(port), err)
@@ -23,7 +23,7 @@ pub fn say_port<E: ByteOut>(port: u16, err: &mut E) -> Result<(), Failed>
 /// Writes that line of a number.
 fn say_line<E: ByteOut>(port: u64, err: &mut E) -> Result<(), Failed>
     ensures ok { OnOk result (Appends (E.written err.old) (E.written err.new) (port_line port)) }
-    ensures err { OnErr result (AppendsPrefix (E.written err.old) (E.written err.new) (port_line port)) }
+    ensures err { OnErr result (AppendsPart (E.written err.old) (E.written err.new) (port_line port)) }
     ensures flag { E.has_failed err.new ≡ (E.has_failed err.old || is_err result) }
 {
     let mut digits = Buffer::new();

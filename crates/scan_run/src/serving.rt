@@ -14,7 +14,7 @@ use flow_scan::Hit;
 use plan_store::{PlanStore, Ticket};
 use scan_core::Session;
 use scan_serve::{Answer, Ended, Outbox, Stop};
-use scan_wire::Lent;
+use scan_wire::Borrowed;
 use std::alloc::Global;
 use std::marker::Model;
 use std::sync::Wait;
@@ -51,7 +51,7 @@ impl<'r, 's, R: Wait> Answer for Served<'r, 's, R> {
 
     fn answer<W: ByteOut>(
         &mut self,
-        request: Lent<'_>,
+        request: Borrowed<'_>,
         outbox: &mut Outbox,
         out: &mut W,
     ) -> Result<(), Stop> {

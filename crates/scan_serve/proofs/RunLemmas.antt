@@ -11,9 +11,9 @@ use Rattle.scan_wire.specs.Messages.{ReplyParts, RequestParts}
 use Rattle.scan_wire.specs.Reading.{StartsWith}
 use Rattle.scan_serve.specs.declared.stop.Halt.{Halt}
 use Rattle.scan_serve.specs.declared.stop.Halt.TheVariants as halt
-use Rattle.scan_serve.specs.Answering.{Answered, AnswersAll, AnswersFront, Run, Step, Stopped}
+use Rattle.scan_serve.specs.Answering.{Answered, AnswersAll, AnswersPrefix, Run, Step, Stopped}
 use Rattle.scan_serve.specs.Stops.{OnHalt}
-use Rattle.scan_serve.proofs.SendLemmas.{front_is, sends_is, sends_none, sends_then, sends_then_front}
+use Rattle.scan_serve.proofs.SendLemmas.{prefix_is, sends_is, sends_none, sends_then, sends_then_prefix}
 
 -- two runs are one
 pub run_then : {S : Type 0} (step : Step S) (s t u : S) (rs qs : List RequestParts) (xs ys : List ReplyParts) → Run step s rs xs t → Run step t qs ys u → Run step s (rs ++ qs) (xs ++ ys) u
@@ -62,12 +62,12 @@ answers_then step s t u text i j k x y z a b c p q = record {
   sent = sends_is x z a c _ _ (sym (replies_text-append p.replies q.replies)) (sends_then x y z a b c (replies_text p.replies) (replies_text q.replies) p.sent q.sent);
 }
 
--- a request's frame at the front is a frame
+-- a request's frame at the start is a frame
 starts_frame : (text : List ℕ) (r : RequestParts) (len : ℕ) → StartsWith text r len → BeginsWithFrame text
 starts_frame text r len st = record { frame = request_frame r; rest = drop len text; is_frame = st.is_request.frame; text_is = st.text_is }
 
 -- no frame from the place on is answered, and nothing is written
-stops_at : {S : Type 0} (step : Step S) (s : S) (text : List ℕ) (place : ℕ) (v w : Option (List ℕ)) (b : List ℕ) → BeginsWithFrame (drop place text) → Appends v w [] → AnswersFront step s text place v w b
+stops_at : {S : Type 0} (step : Step S) (s : S) (text : List ℕ) (place : ℕ) (v w : Option (List ℕ)) (b : List ℕ) → BeginsWithFrame (drop place text) → Appends v w [] → AnswersPrefix step s text place v w b
 stops_at step s text place v w b frame nothing = record {
   requests = [];
   replies = [];
@@ -81,7 +81,7 @@ stops_at step s text place v w b frame nothing = record {
 }
 
 -- the request at the place is not answered in full
-pub stops_in : {S : Type 0} (step : Step S) (s : S) (text : List ℕ) (place len : ℕ) (r : RequestParts) (v w : Option (List ℕ)) (b : List ℕ) → StartsWith (drop place text) r len → Stopped step s r v w b → AnswersFront step s text place v w b
+pub stops_in : {S : Type 0} (step : Step S) (s : S) (text : List ℕ) (place len : ℕ) (r : RequestParts) (v w : Option (List ℕ)) (b : List ℕ) → StartsWith (drop place text) r len → Stopped step s r v w b → AnswersPrefix step s text place v w b
 stops_in step s text place len r v w b st (inl nothing) = stops_at step s text place v w b (starts_frame (drop place text) r len st) nothing
 stops_in step s text place len r v w b st (inr cut) = record {
   requests = r ∷ [];
@@ -91,13 +91,13 @@ stops_in step s text place len r v w b st (inr cut) = record {
   are_requests = All-cons IsRequest r [] st.is_request (All-nil IsRequest);
   text_is = st.text_is ∙ ap (λ (x : List ℕ). x ++ drop len (drop place text)) (sym (append-nil (request_text r)));
   run = (cut.replies, [], cut.new, sym (append-nil cut.replies), cut.is_step, (refl, refl));
-  sent = cut.sent.front;
+  sent = cut.sent.prefix;
   missed = inl cut.sent.missed;
 }
 
 -- after requests that were answered, one is not answered in full
-pub answers_then_front : {S : Type 0} (step : Step S) (s t : S) (text : List ℕ) (i j : ℕ) (x y z : Option (List ℕ)) (a b : List ℕ) → AnswersAll step s t text i j x y a b → AnswersFront step t text j y z b → AnswersFront step s text i x z a
-answers_then_front step s t text i j x y z a b p q = record {
+pub answers_then_prefix : {S : Type 0} (step : Step S) (s t : S) (text : List ℕ) (i j : ℕ) (x y z : Option (List ℕ)) (a b : List ℕ) → AnswersAll step s t text i j x y a b → AnswersPrefix step t text j y z b → AnswersPrefix step s text i x z a
+answers_then_prefix step s t text i j x y z a b p q = record {
   requests = p.requests ++ q.requests;
   replies = p.replies ++ q.replies;
   rest = q.rest;
@@ -106,19 +106,19 @@ answers_then_front step s t text i j x y z a b p q = record {
   text_is = p.text_is ∙ ap (λ (w : List ℕ). requests_text p.requests ++ w) q.text_is ∙ sym (append_assoc (requests_text p.requests) (requests_text q.requests) q.rest)
       ∙ ap (λ (w : List ℕ). w ++ q.rest) (sym (flat_map-append request_text p.requests q.requests));
   run = run_then step s t q.new p.requests q.requests p.replies q.replies p.run q.run;
-  sent = front_is x z a _ _ (sym (replies_text-append p.replies q.replies)) (sends_then_front x y z a b (replies_text p.replies) (replies_text q.replies) p.sent q.sent);
+  sent = prefix_is x z a _ _ (sym (replies_text-append p.replies q.replies)) (sends_then_prefix x y z a b (replies_text p.replies) (replies_text q.replies) p.sent q.sent);
   missed = q.missed;
 }
 
 -- what halts before the first request is answered
 pub halts_first : {S : Type 0} (step : Step S) (s : S) (text rest : List ℕ) (place : ℕ) (v : Option (List ℕ)) (b : List ℕ) (h : Halt) → place ≤ length text → rest ≡ drop place text → OnHalt (λ cause. HasCause cause rest) (BeginsWithFrame rest) h
-    → OnHalt (λ cause. HasCause cause (drop place text) × AnswersAll step s s text place place v v b b) (AnswersFront step s text place v v b) h
+    → OnHalt (λ cause. HasCause cause (drop place text) × AnswersAll step s s text place place v v b b) (AnswersPrefix step s text place v v b) h
 halts_first step s text rest place v b (halt.Bad cause) le is h = (subst (λ (x : List ℕ). HasCause cause x) is h, answers_none step s text place v b le)
 halts_first step s text rest place v b (halt.Stopped stop) le is h = stops_at step s text place v v b (subst (λ (x : List ℕ). BeginsWithFrame x) is h) (Appends-nil v)
 
 -- what halts after requests that were answered
 pub halts_after : {S : Type 0} (step : Step S) (s t u : S) (text : List ℕ) (i j : ℕ) (x y z : Option (List ℕ)) (a b c : List ℕ) (h : Halt) → AnswersAll step s t text i j x y a b
-    → OnHalt (λ cause. HasCause cause (drop j text) × AnswersAll step t u text j j y z b c) (AnswersFront step t text j y z b) h
-    → OnHalt (λ cause. HasCause cause (drop j text) × AnswersAll step s u text i j x z a c) (AnswersFront step s text i x z a) h
+    → OnHalt (λ cause. HasCause cause (drop j text) × AnswersAll step t u text j j y z b c) (AnswersPrefix step t text j y z b) h
+    → OnHalt (λ cause. HasCause cause (drop j text) × AnswersAll step s u text i j x z a c) (AnswersPrefix step s text i x z a) h
 halts_after step s t u text i j x y z a b c (halt.Bad cause) p q = (q.0, answers_then step s t u text i j j x y z a b c p q.1)
-halts_after step s t u text i j x y z a b c (halt.Stopped stop) p q = answers_then_front step s t text i j x y z a b p q
+halts_after step s t u text i j x y z a b c (halt.Stopped stop) p q = answers_then_prefix step s t text i j x y z a b p q

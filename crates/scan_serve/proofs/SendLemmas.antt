@@ -3,11 +3,11 @@ use Rattle.std.proofs.Common.{◌≡◌, ◌≢◌, ℕ, ◌+◌, List, [], ◌�
 use Rattle.std.proofs.lemmas.List.{append-nil, length-append, length-drop, take-append-drop}
 use Rattle.std.specs.Io.KnownBytes.{Appends}
 use Rattle.std.proofs.KnownBytes.{Appends-nil, Appends-trans}
-use Rattle.byte_io.specs.Transfers.{AppendsPrefix}
+use Rattle.byte_io.specs.Transfers.{AppendsPart}
 use Rattle.scan_wire.specs.Frames.{FrameParts, frame_text, reply_frame, reply_text}
 use Rattle.scan_wire.specs.Messages.{ReplyParts}
 use Rattle.scan_wire.specs.Numbers.{u32_text}
-use Rattle.scan_serve.specs.Sending.{Sends, SendsFront, SendsLess}
+use Rattle.scan_serve.specs.Sending.{Sends, SendsPrefix, SendsLess}
 
 -- a text waits, and nothing is written
 pub sends_added : (v : Option (List ℕ)) (a text b : List ℕ) → b ≡ a ++ text → Sends v v a b text
@@ -30,9 +30,9 @@ sends_then u v w a b c x y p q = record {
       ∙ ap (λ (z : List ℕ). p.done ++ z) q.text_is ∙ sym (append_assoc p.done q.done c);
 }
 
--- then a front
-abbrev pub sends_then_front : (u v w : Option (List ℕ)) (a b x y : List ℕ) → Sends u v a b x → SendsFront v w b y → SendsFront u w a (x ++ y)
-sends_then_front u v w a b x y p q = record {
+-- then a prefix
+abbrev pub sends_then_prefix : (u v w : Option (List ℕ)) (a b x y : List ℕ) → Sends u v a b x → SendsPrefix v w b y → SendsPrefix u w a (x ++ y)
+sends_then_prefix u v w a b x y p q = record {
   done = p.done ++ q.done;
   lost = q.lost;
   written = Appends-trans u v w p.done q.done p.written q.written;
@@ -42,7 +42,7 @@ sends_then_front u v w a b x y p q = record {
 
 -- then less than all
 pub sends_then_less : (u v w : Option (List ℕ)) (a b x y : List ℕ) → Sends u v a b x → SendsLess v w b y → SendsLess u w a (x ++ y)
-sends_then_less u v w a b x y p q = record { front = sends_then_front u v w a b x y p q.front; missed = q.missed }
+sends_then_less u v w a b x y p q = record { prefix = sends_then_prefix u v w a b x y p q.prefix; missed = q.missed }
 
 -- what two parts are nothing of, the second is nothing of
 pub after_none : (a text : List ℕ) → a ++ text ≡ [] → text ≡ []
@@ -50,17 +50,17 @@ after_none [] text e = e
 after_none (x ∷ a) text e = absurd (omega (arith, ap length e))
 
 -- nothing is written of a text
-abbrev pub front_none : (v : Option (List ℕ)) (a text : List ℕ) → SendsFront v v a text
-front_none v a text = record { done = []; lost = a ++ text; written = Appends-nil v; text_is = refl }
+abbrev pub prefix_none : (v : Option (List ℕ)) (a text : List ℕ) → SendsPrefix v v a text
+prefix_none v a text = record { done = []; lost = a ++ text; written = Appends-nil v; text_is = refl }
 
 -- nothing is written of a text that is not empty
 pub less_none : (v : Option (List ℕ)) (a text : List ℕ) → text ≢ [] → SendsLess v v a text
-less_none v a text some = record { front = front_none v a text; missed = λ e. some (after_none a text e) }
+less_none v a text some = record { prefix = prefix_none v a text; missed = λ e. some (after_none a text e) }
 
 -- the write of all that waits failed
-pub less_failed : (v w : Option (List ℕ)) (a : List ℕ) → AppendsPrefix v w a → SendsLess v w a []
+pub less_failed : (v w : Option (List ℕ)) (a : List ℕ) → AppendsPart v w a → SendsLess v w a []
 less_failed v w a p = record {
-  front = record { done = take p.count a; lost = drop p.count a; written = p.text; text_is = append-nil a ∙ sym (take-append-drop p.count a) };
+  prefix = record { done = take p.count a; lost = drop p.count a; written = p.text; text_is = append-nil a ∙ sym (take-append-drop p.count a) };
   missed = λ e. omega (arith, p.fewer, ap length e, length-drop p.count a);
 }
 
@@ -68,11 +68,11 @@ less_failed v w a p = record {
 pub sends_is : (v w : Option (List ℕ)) (a b x y : List ℕ) → x ≡ y → Sends v w a b x → Sends v w a b y
 sends_is v w a b x y e s = subst (λ (z : List ℕ). Sends v w a b z) e s
 
-abbrev pub front_is : (v w : Option (List ℕ)) (a x y : List ℕ) → x ≡ y → SendsFront v w a x → SendsFront v w a y
-front_is v w a x y e s = record { done = s.done; lost = s.lost; written = s.written; text_is = ap (λ (z : List ℕ). a ++ z) (sym e) ∙ s.text_is }
+abbrev pub prefix_is : (v w : Option (List ℕ)) (a x y : List ℕ) → x ≡ y → SendsPrefix v w a x → SendsPrefix v w a y
+prefix_is v w a x y e s = record { done = s.done; lost = s.lost; written = s.written; text_is = ap (λ (z : List ℕ). a ++ z) (sym e) ∙ s.text_is }
 
 pub less_is : (v w : Option (List ℕ)) (a x y : List ℕ) → x ≡ y → SendsLess v w a x → SendsLess v w a y
-less_is v w a x y e s = record { front = front_is v w a x y e s.front; missed = s.missed }
+less_is v w a x y e s = record { prefix = prefix_is v w a x y e s.prefix; missed = s.missed }
 
 -- where nothing waited and nothing waits, the text is written
 pub sends_all : (v w : Option (List ℕ)) (x : List ℕ) → Sends v w [] [] x → Appends v w x
@@ -82,18 +82,18 @@ sends_all v w x s = subst (λ (z : List ℕ). Appends v w z) (sym (append-nil s.
 pub sends_then_flushed : (u v w : Option (List ℕ)) (a b c x : List ℕ) → Sends u v a b x → Sends v w b c [] → Sends u w a c x
 sends_then_flushed u v w a b c x p q = sends_is u w a c _ _ (append-nil x) (sends_then u v w a b c x [] p q)
 
--- a text, and then a front of what waits is written
+-- a text, and then a prefix of what waits is written
 pub sends_then_failed : (u v w : Option (List ℕ)) (a b x : List ℕ) → Sends u v a b x → SendsLess v w b [] → SendsLess u w a x
 sends_then_failed u v w a b x p q = less_is u w a _ _ (append-nil x) (sends_then_less u v w a b x [] p q)
 
--- a text was added, and then a front of what waits is written
+-- a text was added, and then a prefix of what waits is written
 pub added_failed : (v w : Option (List ℕ)) (a text b : List ℕ) → b ≡ a ++ text → SendsLess v w b [] → SendsLess v w a text
 added_failed v w a text b is failed = sends_then_failed v v w a b text (sends_added v a text b is) failed
 
 -- of a text and more after it not all is written, if it is none of the more
-pub less_of_more : (v w : Option (List ℕ)) (a x y : List ℕ) → y ≢ [] → SendsFront v w a x → SendsLess v w a (x ++ y)
+pub less_of_more : (v w : Option (List ℕ)) (a x y : List ℕ) → y ≢ [] → SendsPrefix v w a x → SendsLess v w a (x ++ y)
 less_of_more v w a x y some s = record {
-  front = record {
+  prefix = record {
     done = s.done;
     lost = s.lost ++ y;
     written = s.written;

@@ -5,9 +5,9 @@ use Rattle.std.proofs.lemmas.List.Elements.{All-append, All-nil}
 use Rattle.std.proofs.lemmas.List.Concat.{flat_map-append}
 use Rattle.std.specs.Io.KnownBytes.{Appends}
 use Rattle.std.proofs.KnownBytes.{Appends-nil, Appends-trans}
-use Rattle.byte_io.specs.Devices.{Coming, EndsHere, Gives, Told}
+use Rattle.byte_io.specs.Devices.{Coming, EndsHere, Gives, IfKnown}
 use Rattle.byte_io.specs.Transfers.{ReadsInto}
-use Rattle.byte_io.proofs.ToldLemmas.{Told-then}
+use Rattle.byte_io.proofs.KnownLemmas.{IfKnown-then}
 use Rattle.byte_io.proofs.TransferLemmas.{ReadsInto-none}
 use Rattle.scan_wire.proofs.FrameLemmas.{waits_short}
 use Rattle.scan_wire.specs.Causes.{Waits}
@@ -17,9 +17,9 @@ use Rattle.scan_serve.specs.declared.ended.Ended.{Ended}
 use Rattle.scan_serve.specs.declared.ended.Ended.TheVariants.{Clean, Truncated, Bad, ReadFault, WriteFault, OutOfMemory}
 use Rattle.scan_serve.specs.declared.stop.Stop.{Stop}
 use Rattle.scan_serve.specs.declared.stop.Stop.TheVariants as stop
-use Rattle.scan_serve.specs.Answering.{AnswersText, AnswersTextFront, GoesOn, MeetsBad, Step, bad_frame}
-use Rattle.scan_serve.specs.Sending.{SendsFront}
-use Rattle.scan_serve.specs.Serving.{AtEnd, EndsAs, GoesOnServing, IsServed, IsServedFront}
+use Rattle.scan_serve.specs.Answering.{AnswersText, AnswersTextPrefix, GoesOn, MeetsBad, Step, bad_frame}
+use Rattle.scan_serve.specs.Sending.{SendsPrefix}
+use Rattle.scan_serve.specs.Serving.{AtEnd, EndsAs, GoesOnServing, IsServed, IsServedPrefix}
 use Rattle.scan_wire.specs.declared.fault.Cause.{Cause}
 use Rattle.scan_serve.specs.Stops.{ended_by}
 use Rattle.scan_serve.proofs.RunLemmas.{replies_text-append, run_then}
@@ -36,8 +36,8 @@ served_from step s t c d v w held mid rest last r a = record {
   answers = subst (λ (x : List ℕ). AnswersText step s t v w x rest last) r.text a;
 }
 
-pub served_front_from : {S : Type 0} (step : Step S) (s : S) (c d : Option Coming) (v w : Option (List ℕ)) (held mid : List ℕ) → ReadsInto c d held mid → AnswersTextFront step s v w mid → IsServedFront step s c d v w held
-served_front_from step s c d v w held mid r a = record { bytes = r.bytes; read = r.given; answers = subst (λ (x : List ℕ). AnswersTextFront step s v w x) r.text a }
+pub served_prefix_from : {S : Type 0} (step : Step S) (s : S) (c d : Option Coming) (v w : Option (List ℕ)) (held mid : List ℕ) → ReadsInto c d held mid → AnswersTextPrefix step s v w mid → IsServedPrefix step s c d v w held
+served_prefix_from step s c d v w held mid r a = record { bytes = r.bytes; read = r.given; answers = subst (λ (x : List ℕ). AnswersTextPrefix step s v w x) r.text a }
 
 -- before the first turn
 pub served_none : {S : Type 0} (step : Step S) (s : S) (c d : Option Coming) (v : Option (List ℕ)) (held mid : List ℕ) → ReadsInto c d held mid → IsServed step s s c d v v held mid []
@@ -47,8 +47,8 @@ served_none step s c d v held mid r = served_from step s s c d v v held mid mid 
 gives_then : (bs cs : List ℕ) (x y z : Coming) → Gives x y bs → Gives y z cs → Gives x z (bs ++ cs)
 gives_then bs cs x y z p q = record { text = p.text ∙ ap (λ (l : List ℕ). bs ++ l) q.text ∙ sym (append_assoc bs cs z.text); ending = q.ending ∙ p.ending }
 
-told_gives : (a b c : Option Coming) (bs cs : List ℕ) → Told a b (λ x y. Gives x y bs) → Told b c (λ x y. Gives x y cs) → Told a c (λ x y. Gives x y (bs ++ cs))
-told_gives a b c bs cs p q = Told-then a b c (λ x y. Gives x y bs) (λ x y. Gives x y cs) (λ x y. Gives x y (bs ++ cs)) p q (gives_then bs cs)
+known_gives : (a b c : Option Coming) (bs cs : List ℕ) → IfKnown a b (λ x y. Gives x y bs) → IfKnown b c (λ x y. Gives x y cs) → IfKnown a c (λ x y. Gives x y (bs ++ cs))
+known_gives a b c bs cs p q = IfKnown-then a b c (λ x y. Gives x y bs) (λ x y. Gives x y cs) (λ x y. Gives x y (bs ++ cs)) p q (gives_then bs cs)
 
 -- requests and a rest, and after them other requests and a rest
 texts_then : (held b1 mid b2 rest rt1 rt2 : List ℕ) → held ++ b1 ≡ rt1 ++ mid → mid ++ b2 ≡ rt2 ++ rest → held ++ (b1 ++ b2) ≡ (rt1 ++ rt2) ++ rest
@@ -59,7 +59,7 @@ texts_then held b1 mid b2 rest rt1 rt2 p q =
 pub served_then : {S : Type 0} (step : Step S) (s t u : S) (a b c : Option Coming) (x y z : Option (List ℕ)) (held mid rest : List ℕ) (last : List ReplyParts) → IsServed step s t a b x y held mid [] → IsServed step t u b c y z mid rest last → IsServed step s u a c x z held rest last
 served_then step s t u a b c x y z held mid rest last p q = record {
   bytes = p.bytes ++ q.bytes;
-  read = told_gives a b c p.bytes q.bytes p.read q.read;
+  read = known_gives a b c p.bytes q.bytes p.read q.read;
   answers = record {
     requests = p.answers.requests ++ q.answers.requests;
     replies = p.answers.replies ++ q.answers.replies;
@@ -74,9 +74,9 @@ served_then step s t u a b c x y z held mid rest last p q = record {
     joined : (xs ys zs : List ReplyParts) → replies_text (xs ++ []) ++ replies_text (ys ++ zs) ≡ replies_text ((xs ++ ys) ++ zs)
     joined xs ys zs = ap (λ (l : List ReplyParts). replies_text l ++ replies_text (ys ++ zs)) (append-nil xs) ∙ sym (replies_text-append xs (ys ++ zs)) ∙ ap (λ (l : List ReplyParts). replies_text l) (sym (append_assoc xs ys zs))
 
--- what was written before a front
-abbrev front_after : (u v w : Option (List ℕ)) (one two all : List ℕ) → one ++ two ≡ all → Appends u v one → SendsFront v w [] two → SendsFront u w [] all
-front_after u v w one two all e p f = record {
+-- what was written before a prefix
+abbrev prefix_after : (u v w : Option (List ℕ)) (one two all : List ℕ) → one ++ two ≡ all → Appends u v one → SendsPrefix v w [] two → SendsPrefix u w [] all
+prefix_after u v w one two all e p f = record {
   done = one ++ f.done;
   lost = f.lost;
   written = Appends-trans u v w one f.done p f.written;
@@ -84,10 +84,10 @@ front_after u v w one two all e p f = record {
 }
 
 -- turns, and then a turn that stops
-pub served_then_front : {S : Type 0} (step : Step S) (s t : S) (a b c : Option Coming) (x y z : Option (List ℕ)) (held mid : List ℕ) → IsServed step s t a b x y held mid [] → IsServedFront step t b c y z mid → IsServedFront step s a c x z held
-served_then_front step s t a b c x y z held mid p q = record {
+pub served_then_prefix : {S : Type 0} (step : Step S) (s t : S) (a b c : Option Coming) (x y z : Option (List ℕ)) (held mid : List ℕ) → IsServed step s t a b x y held mid [] → IsServedPrefix step t b c y z mid → IsServedPrefix step s a c x z held
+served_then_prefix step s t a b c x y z held mid p q = record {
   bytes = p.bytes ++ q.bytes;
-  read = told_gives a b c p.bytes q.bytes p.read q.read;
+  read = known_gives a b c p.bytes q.bytes p.read q.read;
   answers = record {
     requests = p.answers.requests ++ q.answers.requests;
     replies = p.answers.replies ++ q.answers.replies;
@@ -99,7 +99,7 @@ served_then_front step s t a b c x y z held mid p q = record {
         ∙ ap (λ (w : List ℕ). w ++ q.answers.rest) (sym (flat_map-append request_text p.answers.requests q.answers.requests));
     run = run_then step s t q.answers.new p.answers.requests q.answers.requests p.answers.replies q.answers.replies p.answers.run q.answers.run;
     is_last = q.answers.is_last;
-    written = front_after x y z (replies_text (p.answers.replies ++ [])) (replies_text (q.answers.replies ++ q.answers.last)) _ (joined p.answers.replies q.answers.replies q.answers.last) p.answers.written q.answers.written;
+    written = prefix_after x y z (replies_text (p.answers.replies ++ [])) (replies_text (q.answers.replies ++ q.answers.last)) _ (joined p.answers.replies q.answers.replies q.answers.last) p.answers.written q.answers.written;
     missed = q.answers.missed;
   };
 }
@@ -108,8 +108,8 @@ served_then_front step s t a b c x y z held mid p q = record {
     joined xs ys zs = ap (λ (l : List ReplyParts). replies_text l ++ replies_text (ys ++ zs)) (append-nil xs) ∙ sym (replies_text-append xs (ys ++ zs)) ∙ ap (λ (l : List ReplyParts). replies_text l) (sym (append_assoc xs ys zs))
 
 -- a clean end after known bytes
-at_end_then : (a b c : Option Coming) (bs : List ℕ) → Told a b (λ x y. Gives x y bs) → AtEnd b c → AtEnd a c
-at_end_then a b c bs p q = Told-then a b c (λ x y. Gives x y bs) (λ _ y. EndsHere y) (λ _ y. EndsHere y) p q (λ x y z g e. e)
+at_end_then : (a b c : Option Coming) (bs : List ℕ) → IfKnown a b (λ x y. Gives x y bs) → AtEnd b c → AtEnd a c
+at_end_then a b c bs p q = IfKnown-then a b c (λ x y. Gives x y bs) (λ _ y. EndsHere y) (λ _ y. EndsHere y) p q (λ x y z g e. e)
 
 -- turns, and then an ending
 pub served_then_ends : {S : Type 0} (step : Step S) (s t u : S) (a b c : Option Coming) (x y z : Option (List ℕ)) (held mid : List ℕ) (e : Ended) → e ≢ OutOfMemory → IsServed step s t a b x y held mid [] → EndsAs step t u b c y z mid e → EndsAs step s u a c x z held e
@@ -117,11 +117,11 @@ served_then_ends step s t u a b c x y z held mid Clean mem p q = (served_then st
 served_then_ends step s t u a b c x y z held mid Truncated mem p (rest, some, waits, q, end) = (rest, some, waits, served_then step s t u a b c x y z held mid rest [] p q, at_end_then a b c p.bytes p.read end)
 served_then_ends step s t u a b c x y z held mid Bad mem p (rest, cause, has, q) = (rest, cause, has, served_then step s t u a b c x y z held mid rest _ p q)
 served_then_ends step s t u a b c x y z held mid ReadFault mem p (rest, waits, q) = (rest, waits, served_then step s t u a b c x y z held mid rest [] p q)
-served_then_ends step s t u a b c x y z held mid WriteFault mem p q = served_then_front step s t a b c x y z held mid p q
+served_then_ends step s t u a b c x y z held mid WriteFault mem p q = served_then_prefix step s t a b c x y z held mid p q
 served_then_ends step s t u a b c x y z held mid OutOfMemory mem p q = absurd (mem refl)
 
 -- a stop is the ending that it names
-pub stops_as : {S : Type 0} (step : Step S) (s t : S) (c d : Option Coming) (v w : Option (List ℕ)) (held : List ℕ) (why : Stop) → IsServedFront step s c d v w held → EndsAs step s t c d v w held (ended_by why)
+pub stops_as : {S : Type 0} (step : Step S) (s t : S) (c d : Option Coming) (v w : Option (List ℕ)) (held : List ℕ) (why : Stop) → IsServedPrefix step s c d v w held → EndsAs step s t c d v w held (ended_by why)
 stops_as step s t c d v w held stop.WriteFault p = p
 stops_as step s t c d v w held stop.OutOfMemory p = inl p
 
@@ -170,10 +170,10 @@ pub has_no_end : (now : Option Ended) (ended : Ended) → now ≡ None → turne
 has_no_end now ended on = λ e. cc
 
 -- nothing is read
-told_none : (c : Option Coming) → Told c c (λ x y. Gives x y [])
-told_none None = tt
-told_none (Some x) = record { text = refl; ending = refl }
+known_none : (c : Option Coming) → IfKnown c c (λ x y. Gives x y [])
+known_none None = tt
+known_none (Some x) = record { text = refl; ending = refl }
 
 -- serving stops before the first turn
 pub stops_first : {S : Type 0} (step : Step S) (s : S) (c : Option Coming) (v : Option (List ℕ)) → EndsAs step s s c c v v [] OutOfMemory
-stops_first step s c v = inr (record { read = told_none c; written = Appends-nil v })
+stops_first step s c v = inr (record { read = known_none c; written = Appends-nil v })

@@ -5,10 +5,10 @@ use Rattle.scan_wire.specs.declared.fault.Cause.{Cause}
 use Rattle.scan_wire.specs.Causes.{HasCause, Waits}
 use Rattle.scan_wire.specs.Frames.{replies_text, reply_text, requests_text}
 use Rattle.scan_wire.specs.Messages.{ReplyParts}
-use Rattle.scan_serve.specs.Answering.{AnswersAll, AnswersFront, AnswersTextFront, GoesOn, MeetsBad, Step, bad_frame}
+use Rattle.scan_serve.specs.Answering.{AnswersAll, AnswersPrefix, AnswersTextPrefix, GoesOn, MeetsBad, Step, bad_frame}
 use Rattle.scan_serve.specs.Sending.{Sends, SendsLess}
 use Rattle.scan_serve.proofs.RunLemmas.{replies_text-append}
-use Rattle.scan_serve.proofs.SendLemmas.{front_is, sends_all, sends_is, sends_then, sends_then_front}
+use Rattle.scan_serve.proofs.SendLemmas.{prefix_is, sends_all, sends_is, sends_then, sends_then_prefix}
 
 -- no reply after the others
 no_last : (replies : List ReplyParts) → replies_text replies ≡ replies_text (replies ++ [])
@@ -50,7 +50,7 @@ meets_bad step s t text rest place cause u v w b c a has refused none is = recor
 }
 
 -- what waits cannot be written
-pub stops_flushing : {S : Type 0} (step : Step S) (s t : S) (text : List ℕ) (place : ℕ) (u v w : Option (List ℕ)) (b : List ℕ) → AnswersAll step s t text 0 place u v [] b → SendsLess v w b [] → AnswersTextFront step s u w text
+pub stops_flushing : {S : Type 0} (step : Step S) (s t : S) (text : List ℕ) (place : ℕ) (u v w : Option (List ℕ)) (b : List ℕ) → AnswersAll step s t text 0 place u v [] b → SendsLess v w b [] → AnswersTextPrefix step s u w text
 stops_flushing step s t text place u v w b a sent = record {
   requests = a.requests;
   replies = a.replies;
@@ -61,12 +61,12 @@ stops_flushing step s t text place u v w b a sent = record {
   text_is = a.text_is;
   run = a.run;
   is_last = inl refl;
-  written = front_is u w [] _ _ (append-nil (replies_text a.replies) ∙ no_last a.replies) (sends_then_front u v w [] b (replies_text a.replies) [] a.sent sent.front);
+  written = prefix_is u w [] _ _ (append-nil (replies_text a.replies) ∙ no_last a.replies) (sends_then_prefix u v w [] b (replies_text a.replies) [] a.sent sent.prefix);
   missed = inl sent.missed;
 }
 
 -- the refusal of a bad frame cannot be written
-pub stops_refusing : {S : Type 0} (step : Step S) (s t : S) (text : List ℕ) (place : ℕ) (cause : Cause) (u v w : Option (List ℕ)) (b : List ℕ) → AnswersAll step s t text 0 place u v [] b → HasCause cause (drop place text) → SendsLess v w b (reply_text (bad_frame cause)) → AnswersTextFront step s u w text
+pub stops_refusing : {S : Type 0} (step : Step S) (s t : S) (text : List ℕ) (place : ℕ) (cause : Cause) (u v w : Option (List ℕ)) (b : List ℕ) → AnswersAll step s t text 0 place u v [] b → HasCause cause (drop place text) → SendsLess v w b (reply_text (bad_frame cause)) → AnswersTextPrefix step s u w text
 stops_refusing step s t text place cause u v w b a has sent = record {
   requests = a.requests;
   replies = a.replies;
@@ -77,12 +77,12 @@ stops_refusing step s t text place cause u v w b a has sent = record {
   text_is = a.text_is;
   run = a.run;
   is_last = inr (cause, has, refl);
-  written = front_is u w [] _ _ (one_last a.replies (bad_frame cause)) (sends_then_front u v w [] b (replies_text a.replies) (reply_text (bad_frame cause)) a.sent sent.front);
+  written = prefix_is u w [] _ _ (one_last a.replies (bad_frame cause)) (sends_then_prefix u v w [] b (replies_text a.replies) (reply_text (bad_frame cause)) a.sent sent.prefix);
   missed = inl sent.missed;
 }
 
 -- a request is not answered in full
-pub stops_answering : {S : Type 0} (step : Step S) (s : S) (text : List ℕ) (u v : Option (List ℕ)) → AnswersFront step s text 0 u v [] → AnswersTextFront step s u v text
+pub stops_answering : {S : Type 0} (step : Step S) (s : S) (text : List ℕ) (u v : Option (List ℕ)) → AnswersPrefix step s text 0 u v [] → AnswersTextPrefix step s u v text
 stops_answering step s text u v a = record {
   requests = a.requests;
   replies = a.replies;
@@ -93,7 +93,7 @@ stops_answering step s text u v a = record {
   text_is = a.text_is;
   run = a.run;
   is_last = inl refl;
-  written = front_is u v [] _ _ (no_last a.replies) a.sent;
+  written = prefix_is u v [] _ _ (no_last a.replies) a.sent;
   missed = elim a.missed [
     | inl lost ↦ inl lost
     | inr frame ↦ inr (refl, frame)

@@ -6,7 +6,7 @@ use Rattle.scan_wire.specs.Causes.{BeginsWithFrame, HasCause, Waits}
 use Rattle.scan_wire.specs.Faults.{cause_number}
 use Rattle.scan_wire.specs.Frames.{IsRequest, replies_text, requests_text}
 use Rattle.scan_wire.specs.Messages.{Refused, ReplyParts, RequestParts}
-use Rattle.scan_serve.specs.Sending.{Sends, SendsFront, SendsLess}
+use Rattle.scan_serve.specs.Sending.{Sends, SendsPrefix, SendsLess}
 
 -- how one request is answered: state before, request, replies, state after
 abbrev pub Step : Type 0 → Type 1
@@ -48,7 +48,7 @@ pub record AnswersAll {S : Type 0} (step : Step S) (old new : S) (text : List �
 
 -- Some requests stand from a place on, and a prefix of their replies is written: not all of them, or a frame follows that
 -- is not answered.
-pub record AnswersFront {S : Type 0} (step : Step S) (old : S) (text : List ℕ) (from : ℕ) (written_old written_new : Option (List ℕ)) (before : List ℕ) : Type 0 where
+pub record AnswersPrefix {S : Type 0} (step : Step S) (old : S) (text : List ℕ) (from : ℕ) (written_old written_new : Option (List ℕ)) (before : List ℕ) : Type 0 where
   pub requests : List RequestParts
   pub replies : List ReplyParts
   pub rest : List ℕ
@@ -56,7 +56,7 @@ pub record AnswersFront {S : Type 0} (step : Step S) (old : S) (text : List ℕ)
   pub are_requests : All IsRequest requests
   pub text_is : drop from text ≡ requests_text requests ++ rest
   pub run : Run step old requests replies new
-  pub sent : SendsFront written_old written_new before (replies_text replies)
+  pub sent : SendsPrefix written_old written_new before (replies_text replies)
   pub missed : (sent.lost ≢ []) ⊎ BeginsWithFrame rest
 
 -- the refusal of a bad frame
@@ -78,7 +78,7 @@ IsLast last rest = (last ≡ []) ⊎ ((cause : Cause) × HasCause cause rest × 
 
 -- A text is requests and a rest, and a prefix of the requests' replies is written, after which the refusal of a bad
 -- frame counts as one: not all of them, or the rest begins with a frame that is not answered.
-pub record AnswersTextFront {S : Type 0} (step : Step S) (old : S) (written_old written_new : Option (List ℕ)) (text : List ℕ) : Type 0 where
+pub record AnswersTextPrefix {S : Type 0} (step : Step S) (old : S) (written_old written_new : Option (List ℕ)) (text : List ℕ) : Type 0 where
   pub requests : List RequestParts
   pub replies : List ReplyParts
   pub last : List ReplyParts
@@ -88,7 +88,7 @@ pub record AnswersTextFront {S : Type 0} (step : Step S) (old : S) (written_old 
   pub text_is : text ≡ requests_text requests ++ rest
   pub run : Run step old requests replies new
   pub is_last : IsLast last rest
-  pub written : SendsFront written_old written_new [] (replies_text (replies ++ last))
+  pub written : SendsPrefix written_old written_new [] (replies_text (replies ++ last))
   pub missed : (written.lost ≢ []) ⊎ ((last ≡ []) × BeginsWithFrame rest)
 
 -- all is written, and the rest waits for more

@@ -9,7 +9,7 @@ pub record Sends (written_old written_new : Option (List ℕ)) (old new text : L
   pub text_is : old ++ text ≡ done ++ new
 
 -- a prefix of the bytes that waited and of a text after them was written, and no more
-pub record SendsFront (written_old written_new : Option (List ℕ)) (old text : List ℕ) : Type 0 where
+pub record SendsPrefix (written_old written_new : Option (List ℕ)) (old text : List ℕ) : Type 0 where
   pub done : List ℕ
   pub lost : List ℕ
   pub written : Appends written_old written_new done
@@ -17,5 +17,5 @@ pub record SendsFront (written_old written_new : Option (List ℕ)) (old text : 
 
 -- and not all of them
 pub record SendsLess (written_old written_new : Option (List ℕ)) (old text : List ℕ) : Type 0 where
-  pub front : SendsFront written_old written_new old text
-  pub missed : front.lost ≢ []
+  pub prefix : SendsPrefix written_old written_new old text
+  pub missed : prefix.lost ≢ []

@@ -1,23 +1,23 @@
 //! The frames that were read, answered in order.
 ghost use Rattle.std.specs.Prelude.{◌≡◌, ◌≢◌, ◌+◌, ◌<◌, ◌≤◌, drop, length, IfErr, IfOk, IsTrue, MatchOption, OnOk};
 ghost use Rattle.scan_wire.specs.Causes.{BeginsWithFrame, HasCause, Waits};
-ghost use Rattle.scan_wire.specs.Messages.{lent_parts};
+ghost use Rattle.scan_wire.specs.Messages.{borrowed_parts};
 ghost use Rattle.scan_wire.specs.Reading.{StartsWith};
-ghost use Rattle.scan_serve.specs.Answering.{AnswersAll, AnswersFront};
+ghost use Rattle.scan_serve.specs.Answering.{AnswersAll, AnswersPrefix};
 ghost use Rattle.scan_serve.specs.Stops.{OnHalt};
 
 use crate::answer::Answer;
 use crate::outbox::Outbox;
 use crate::stop::{Halt, Stop};
 use byte_io::ByteOut;
-use scan_wire::{Fault, Lent, next};
+use scan_wire::{Borrowed, Fault, next};
 use std::alloc::Global;
 
-/// The request at the front, where its frame is whole, and how many bytes that has.
-fn request_at(alloc: Global, bytes: &[u8]) -> Result<Option<(Lent<'_>, usize)>, Halt>
+/// The request at the start, where its frame is whole, and how many bytes that has.
+fn request_at(alloc: Global, bytes: &[u8]) -> Result<Option<(Borrowed<'_>, usize)>, Halt>
     ensures found { IfOk result (λ request. MatchOption request
         (Waits bytes.now × (length bytes.now < 65545))
-        (λ x. StartsWith bytes.now (lent_parts x.0) x.1)) }
+        (λ x. StartsWith bytes.now (borrowed_parts x.0) x.1)) }
     ensures halt { IfErr result (OnHalt (λ cause. HasCause cause bytes.now) (BeginsWithFrame bytes.now)) }
     ensures fault { result ≢ Err (Halt.Stopped Stop.WriteFault) }
 {
@@ -48,7 +48,7 @@ fn answer_one<S: Answer, W: ByteOut>(
         (λ cause. HasCause cause (drop place bytes.now)
         × AnswersAll S.step session.old session.new bytes.now place place
         (W.written out.old) (W.written out.new) outbox.old outbox.new)
-        (AnswersFront S.step session.old bytes.now place
+        (AnswersPrefix S.step session.old bytes.now place
         (W.written out.old) (W.written out.new) outbox.old)) }
     ensures fault { result ≡ Err (Halt.Stopped Stop.WriteFault) → IsTrue (W.has_failed out.new) }
     ensures flag { result ≢ Err (Halt.Stopped Stop.WriteFault) → W.has_failed out.new ≡ W.has_failed out.old }
@@ -80,7 +80,7 @@ pub fn answer_all<S: Answer, W: ByteOut>(
         (λ cause. HasCause cause (drop place.new bytes.now)
         × AnswersAll S.step session.old session.new bytes.now place.old place.new
         (W.written out.old) (W.written out.new) outbox.old outbox.new)
-        (AnswersFront S.step session.old bytes.now place.old
+        (AnswersPrefix S.step session.old bytes.now place.old
         (W.written out.old) (W.written out.new) outbox.old)) }
     ensures fault { result ≡ Err (Halt.Stopped Stop.WriteFault) → IsTrue (W.has_failed out.new) }
     ensures flag { result ≢ Err (Halt.Stopped Stop.WriteFault) → W.has_failed out.new ≡ W.has_failed out.old }

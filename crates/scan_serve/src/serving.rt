@@ -2,7 +2,7 @@
 ghost use Rattle.std.specs.Prelude.{◌≡◌, ◌≢◌, ◌+◌, ◌^◌, ◌<◌, ◌≤◌, ◌⊎◌, [], length, IfNone, IfOk, IfSome, IsTrue, OnErr, OnOk};
 ghost use Rattle.scan_wire.specs.Causes.{Waits};
 ghost use Rattle.scan_serve.specs.declared.ended.Ended.TheVariants.{OutOfMemory, ReadFault, WriteFault};
-ghost use Rattle.scan_serve.specs.Serving.{EndsAs, GoesOnServing, IsServedFront};
+ghost use Rattle.scan_serve.specs.Serving.{EndsAs, GoesOnServing, IsServedPrefix};
 
 use crate::answer::Answer;
 use crate::ended::Ended;
@@ -33,7 +33,7 @@ fn turn<S: Answer, R: ByteIn, W: ByteOut>(
     ensures ends { IfOk result (λ ended. IfSome ended (EndsAs S.step
         session.old session.new (R.coming input.old) (R.coming input.new)
         (W.written out.old) (W.written out.new) window.old)) }
-    ensures stop { OnErr result (IsServedFront S.step session.old
+    ensures stop { OnErr result (IsServedPrefix S.step session.old
         (R.coming input.old) (R.coming input.new)
         (W.written out.old) (W.written out.new) window.old) }
     ensures no_stop { result ≢ Ok (Some WriteFault) }
@@ -72,7 +72,7 @@ fn turns<S: Answer, R: ByteIn, W: ByteOut>(
     ensures ends { IfOk result (EndsAs S.step session.old session.new
         (R.coming input.old) (R.coming input.new)
         (W.written out.old) (W.written out.new) window.old) }
-    ensures stop { OnErr result (IsServedFront S.step session.old
+    ensures stop { OnErr result (IsServedPrefix S.step session.old
         (R.coming input.old) (R.coming input.new)
         (W.written out.old) (W.written out.new) window.old) }
     ensures no_stop { result ≢ Ok WriteFault }

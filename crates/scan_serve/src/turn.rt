@@ -2,7 +2,7 @@
 ghost use Rattle.std.specs.Prelude.{◌≡◌, ◌≢◌, [], IfOk, IsTrue, MatchOption, OnErr, OnOk};
 ghost use Rattle.scan_wire.specs.Frames.{FitsReply, reply_text};
 ghost use Rattle.scan_wire.specs.Messages.{reply_parts};
-ghost use Rattle.scan_serve.specs.Answering.{AnswersTextFront, GoesOn, MeetsBad, bad_frame};
+ghost use Rattle.scan_serve.specs.Answering.{AnswersTextPrefix, GoesOn, MeetsBad, bad_frame};
 ghost use Rattle.scan_serve.specs.Sending.{Sends, SendsLess};
 
 use crate::answer::Answer;
@@ -56,7 +56,7 @@ pub fn answer_window<S: Answer, W: ByteOut>(
         (W.written out.old) (W.written out.new) window.old window.new)
         (MeetsBad S.step session.old session.new
         (W.written out.old) (W.written out.new) window.old window.new)) }
-    ensures stop { OnErr result (AnswersTextFront S.step session.old
+    ensures stop { OnErr result (AnswersTextPrefix S.step session.old
         (W.written out.old) (W.written out.new) window.old) }
     ensures fault { result ≡ Err Stop.WriteFault → IsTrue (W.has_failed out.new) }
     ensures flag { result ≢ Err Stop.WriteFault → W.has_failed out.new ≡ W.has_failed out.old }

@@ -1,6 +1,6 @@
 //! The bytes that were read and not yet answered.
 ghost use Rattle.std.specs.Prelude.{◌≡◌, ◌<◌, ◌≤◌, ◌+◌, ◌*◌, ◌||◌, [], drop, length, min, take, vec_capacity, IfOk, IsTrue, OnErr, OnOk, is_err};
-ghost use Rattle.byte_io.specs.Devices.{EndsHere, Told, count_of};
+ghost use Rattle.byte_io.specs.Devices.{EndsHere, IfKnown, count_of};
 ghost use Rattle.byte_io.specs.Transfers.{ReadsInto};
 ghost use Rattle.scan_serve.specs.declared.window.TheConstants.{ROOM};
 
@@ -69,7 +69,7 @@ impl Window {
         &self.buffer[..self.len]
     }
 
-    /// Removes `count` bytes from the front.
+    /// Removes `count` bytes from the start.
     pub fn skip(&mut self, count: usize)
         requires { count ≤ length self.old }
         ensures { self.new ≡ drop count self.old }
@@ -86,7 +86,7 @@ impl Window {
         ensures count { IfOk result (λ n. length self.new ≡ length self.old + n) }
         ensures given { R.given input.new ≡ R.given input.old + count_of result }
         ensures end { result ≡ Ok 0
-            → Told (R.coming input.old) (R.coming input.new) (λ _ c. EndsHere c) }
+            → IfKnown (R.coming input.old) (R.coming input.new) (λ _ c. EndsHere c) }
         ensures err { OnErr result (self.new ≡ self.old) }
         ensures fault { OnErr result (IsTrue (R.has_failed input.new)) }
         ensures flag { R.has_failed input.new ≡ (R.has_failed input.old || is_err result) }

@@ -1,4 +1,4 @@
--- What stands at the front of a text: a frame, a bad length, or too few bytes.
+-- What stands at the start of a text: a frame, a bad length, or too few bytes.
 use Rattle.std.proofs.Common.{◌≡◌, ◌≢◌, ℕ, ◌+◌, ◌^◌, ◌<◌, ◌≤◌, List, ◌∷◌, ◌++◌, length, take, drop, sym, ap, subst, ◌∙◌, Option, Some, None, append_assoc, arith}
 use Rattle.std.specs.Prelude.{IfNone, IfSome, MatchOption}
 use Rattle.std.proofs.lemmas.List.{length-append, length-take, take-append-drop, drop_at}
@@ -29,7 +29,7 @@ begins_same : (text : List ℕ) (n : ℕ) (rest : List ℕ) (f : FrameParts) (la
 begins_same text n rest f later ln is frame e =
     u32_same n (5 + length f.payload) rest (body_of f ++ later) ln (omega (arith, frame.payload)) (sym is ∙ e ∙ append_assoc (u32_text (5 + length f.payload)) (body_of f) later)
 
--- no frame stands at the front
+-- no frame stands at the start
 abbrev pub NoFrame : List ℕ → Type 0
 NoFrame text = (f : FrameParts) (later : List ℕ) → IsFrame f → text ≢ frame_text f ++ later
 
@@ -43,7 +43,7 @@ none_cut text n rest ln is few f later frame e =
     let same = begins_same text n rest f later ln is frame e in
     omega (arith, same.number, ap length same.rest, length-append (body_of f) later, length-body_of f)
 
--- a text at whose front no frame stands, and no bad length, waits
+-- a text at whose prefix no frame stands, and no bad length, waits
 waits_from : (text : List ℕ) → NoFrame text → (HasBadLength text → ⊥) → Waits text
 waits_from text none good = record {
   no_request = λ b. none (request_frame b.request) b.rest b.is_request.frame b.text_is;
@@ -70,10 +70,10 @@ waits_cut text n rest ln is least most few = waits_from text (none_cut text n re
         bad.out_of_range (record { least = omega (arith, same.number); most = omega (arith, same.number) })
 
 -- a length and as many bytes after it are a frame
-pub starts_with : (text : List ℕ) (n : ℕ) (rest front : List ℕ) (f : FrameParts) → f.kind < 2 ^ 8 → f.stream < 2 ^ 32 → text ≡ u32_text n ++ rest → n ≤ 65541 → n ≤ length rest → front ≡ take n rest → front ≡ body_of f → StartsWithFrame text f
-starts_with text n rest front f kind stream is most long front_is body =
-    let len : n ≡ 5 + length f.payload = omega (arith, ap length front_is, ap length body, length-take n rest, length-body_of f) in
-    let rest-is : rest ≡ body_of f ++ drop n rest = sym (take-append-drop n rest) ∙ ap (λ (x : List ℕ). x ++ drop n rest) (sym front_is ∙ body) in
+pub starts_with : (text : List ℕ) (n : ℕ) (rest prefix : List ℕ) (f : FrameParts) → f.kind < 2 ^ 8 → f.stream < 2 ^ 32 → text ≡ u32_text n ++ rest → n ≤ 65541 → n ≤ length rest → prefix ≡ take n rest → prefix ≡ body_of f → StartsWithFrame text f
+starts_with text n rest prefix f kind stream is most long prefix_is body =
+    let len : n ≡ 5 + length f.payload = omega (arith, ap length prefix_is, ap length body, length-take n rest, length-body_of f) in
+    let rest-is : rest ≡ body_of f ++ drop n rest = sym (take-append-drop n rest) ∙ ap (λ (x : List ℕ). x ++ drop n rest) (sym prefix_is ∙ body) in
     let text-is : text ≡ frame_text f ++ drop n rest = is ∙ ap (λ (x : List ℕ). u32_text n ++ x) rest-is ∙ sym (append_assoc (u32_text n) (body_of f) (drop n rest)) ∙ ap (λ (k : ℕ). (u32_text k ++ body_of f) ++ drop n rest) len in
     let after : drop (9 + length f.payload) text ≡ drop n rest = ap (λ (x : List ℕ). drop (9 + length f.payload) x) text-is ∙ drop_at (frame_text f) (drop n rest) (9 + length f.payload) (length-frame_text f) in
     record {
@@ -82,7 +82,7 @@ starts_with text n rest front f kind stream is most long front_is body =
       text_is = text-is ∙ ap (λ (x : List ℕ). frame_text f ++ x) (sym after);
     }
 
--- the frame of a request at the front is the request
+-- the frame of a request at the start is the request
 pub found_request : (text : List ℕ) (f : FrameParts) (r : RequestParts) (len : ℕ) → StartsWithFrame text f → HasFields r × (request_frame r ≡ f) → len ≡ 9 + length f.payload → StartsWith text r len
 found_request text f r len s h is = record {
   is_request = record { fields = h.0; frame = subst IsFrame (sym h.1) s.is_frame };
@@ -91,7 +91,7 @@ found_request text f r len s h is = record {
   text_is = s.text_is ∙ ap (λ (g : FrameParts). frame_text g ++ drop (9 + length f.payload) text) (sym h.1) ∙ ap (λ (k : ℕ). request_text r ++ drop k text) (sym is);
 }
 
--- a fault of the frame at the front is a fault of the text
+-- a fault of the frame at the start is a fault of the text
 pub wrong_frame : (text : List ℕ) (f : FrameParts) (e : Fault) → StartsWithFrame text f → IfBadFrame (λ cause. IsWrong cause f) e → IfBadFrame (λ cause. HasCause cause text) e
 wrong_frame text f OutOfMemory s w = w
 wrong_frame text f (BadFrame Length) s w = absurd w
@@ -99,10 +99,10 @@ wrong_frame text f (BadFrame Kind) s w = record { frame = f; rest = drop (9 + le
 wrong_frame text f (BadFrame Stream) s w = record { frame = f; rest = drop (9 + length f.payload) text; is_frame = s.is_frame; text_is = s.text_is; wrong = w }
 wrong_frame text f (BadFrame Payload) s w = record { frame = f; rest = drop (9 + length f.payload) text; is_frame = s.is_frame; text_is = s.text_is; wrong = w }
 
--- a frame read from the bytes after a length in its range is the frame at the front
-pub starts_or_waits : (text : List ℕ) (n : ℕ) (rest front : List ℕ) (o : Option Frame) → text ≡ u32_text n ++ rest → 5 ≤ n → n ≤ 65541 → n ≤ length rest → front ≡ take n rest → IfSome o (λ f. (f.kind < 2 ^ 8) × (f.stream < 2 ^ 32) × (front ≡ f.kind ∷ (u32_text f.stream ++ f.payload.now))) → IfNone o (length front < 5) → MatchOption o (Waits text) (λ f. StartsWithFrame text (parts_of f))
-starts_or_waits text n rest front None is least most long front_is some none = absurd (omega (arith, none, ap length front_is, length-take n rest))
-starts_or_waits text n rest front (Some f) is least most long front_is some none = starts_with text n rest front (parts_of f) some.0 some.1 is most long front_is some.2
+-- a frame read from the bytes after a length in its range is the frame at the start
+pub starts_or_waits : (text : List ℕ) (n : ℕ) (rest prefix : List ℕ) (o : Option Frame) → text ≡ u32_text n ++ rest → 5 ≤ n → n ≤ 65541 → n ≤ length rest → prefix ≡ take n rest → IfSome o (λ f. (f.kind < 2 ^ 8) × (f.stream < 2 ^ 32) × (prefix ≡ f.kind ∷ (u32_text f.stream ++ f.payload.now))) → IfNone o (length prefix < 5) → MatchOption o (Waits text) (λ f. StartsWithFrame text (parts_of f))
+starts_or_waits text n rest prefix None is least most long prefix_is some none = absurd (omega (arith, none, ap length prefix_is, length-take n rest))
+starts_or_waits text n rest prefix (Some f) is least most long prefix_is some none = starts_with text n rest prefix (parts_of f) some.0 some.1 is most long prefix_is some.2
 
 kinds_apart : (n k : ℕ) → 2 ≤ n → n ≡ k → k ≡ 1 → ⊥
 kinds_apart n k some same one = omega arith
@@ -122,9 +122,9 @@ publish_wrong f (BadFrame cause) kind stream h =
     subst (λ (c : Cause). IsWrong c f) (sym h.0) (record { least = omega arith; most = omega arith }, λ _. stream, no_publish f kind h.1)
 
 -- as many bytes as kind and stream have are a frame
-pub not_short : (P : Type 0) (o : Option Frame) (front : List ℕ) → 5 ≤ length front → IfNone o (length front < 5) → IfNone o P
-not_short P None front long none = absurd (omega arith)
-not_short P (Some f) front long none = tt
+pub not_short : (P : Type 0) (o : Option Frame) (prefix : List ℕ) → 5 ≤ length prefix → IfNone o (length prefix < 5) → IfNone o P
+not_short P None prefix long none = absurd (omega arith)
+not_short P (Some f) prefix long none = tt
 
 -- a text that begins with a length in its range, and has not all of its bytes, is short
 pub cut_short : (text : List ℕ) (n : ℕ) (rest : List ℕ) → text ≡ u32_text n ++ rest → n ≤ 65541 → length rest < n → length text < 65545

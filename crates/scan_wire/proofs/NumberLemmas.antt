@@ -18,24 +18,24 @@ AreBytes-take n bytes are i =
     ]
 
 -- two bytes are the text of the number that they are
-pub u16_first : (bytes front rest : List ℕ) (n : ℕ) → front ≡ take 2 bytes → rest ≡ drop 2 bytes → AreBytes bytes → 2 ≤ length bytes → n ≡ from_be_bytes w16 front → bytes ≡ u16_text n ++ rest
+pub u16_first : (bytes prefix rest : List ℕ) (n : ℕ) → prefix ≡ take 2 bytes → rest ≡ drop 2 bytes → AreBytes bytes → 2 ≤ length bytes → n ≡ from_be_bytes w16 prefix → bytes ≡ u16_text n ++ rest
 unfolding u16_text
-u16_first bytes front rest n front_is rest_is are long is =
-    let spelled : to_be_bytes w16 n ≡ take 2 bytes = be_bytes_2 (take 2 bytes) n (omega (arith, length-take 2 bytes)) (AreBytes-take 2 bytes are) (is ∙ ap (λ (x : List ℕ). from_be_bytes w16 x) front_is) in
+u16_first bytes prefix rest n prefix_is rest_is are long is =
+    let spelled : to_be_bytes w16 n ≡ take 2 bytes = be_bytes_2 (take 2 bytes) n (omega (arith, length-take 2 bytes)) (AreBytes-take 2 bytes are) (is ∙ ap (λ (x : List ℕ). from_be_bytes w16 x) prefix_is) in
     sym (take-append-drop 2 bytes) ∙ ap (λ (x : List ℕ). x ++ drop 2 bytes) (sym spelled) ∙ ap (λ (x : List ℕ). to_be_bytes w16 n ++ x) (sym rest_is)
 
 -- four bytes are the text of the number that they are
-pub u32_first : (bytes front rest : List ℕ) (n : ℕ) → front ≡ take 4 bytes → rest ≡ drop 4 bytes → AreBytes bytes → 4 ≤ length bytes → n ≡ from_be_bytes w32 front → bytes ≡ u32_text n ++ rest
+pub u32_first : (bytes prefix rest : List ℕ) (n : ℕ) → prefix ≡ take 4 bytes → rest ≡ drop 4 bytes → AreBytes bytes → 4 ≤ length bytes → n ≡ from_be_bytes w32 prefix → bytes ≡ u32_text n ++ rest
 unfolding u32_text
-u32_first bytes front rest n front_is rest_is are long is =
-    let spelled : to_be_bytes w32 n ≡ take 4 bytes = be_bytes_4 (take 4 bytes) n (omega (arith, length-take 4 bytes)) (AreBytes-take 4 bytes are) (is ∙ ap (λ (x : List ℕ). from_be_bytes w32 x) front_is) in
+u32_first bytes prefix rest n prefix_is rest_is are long is =
+    let spelled : to_be_bytes w32 n ≡ take 4 bytes = be_bytes_4 (take 4 bytes) n (omega (arith, length-take 4 bytes)) (AreBytes-take 4 bytes are) (is ∙ ap (λ (x : List ℕ). from_be_bytes w32 x) prefix_is) in
     sym (take-append-drop 4 bytes) ∙ ap (λ (x : List ℕ). x ++ drop 4 bytes) (sym spelled) ∙ ap (λ (x : List ℕ). to_be_bytes w32 n ++ x) (sym rest_is)
 
 -- eight bytes are the text of the number that they are
-pub u64_first : (bytes front rest : List ℕ) (n : ℕ) → front ≡ take 8 bytes → rest ≡ drop 8 bytes → AreBytes bytes → 8 ≤ length bytes → n ≡ from_be_bytes w64 front → bytes ≡ u64_text n ++ rest
+pub u64_first : (bytes prefix rest : List ℕ) (n : ℕ) → prefix ≡ take 8 bytes → rest ≡ drop 8 bytes → AreBytes bytes → 8 ≤ length bytes → n ≡ from_be_bytes w64 prefix → bytes ≡ u64_text n ++ rest
 unfolding u64_text
-u64_first bytes front rest n front_is rest_is are long is =
-    let spelled : to_be_bytes w64 n ≡ take 8 bytes = be_bytes_8 (take 8 bytes) n (omega (arith, length-take 8 bytes)) (AreBytes-take 8 bytes are) (is ∙ ap (λ (x : List ℕ). from_be_bytes w64 x) front_is) in
+u64_first bytes prefix rest n prefix_is rest_is are long is =
+    let spelled : to_be_bytes w64 n ≡ take 8 bytes = be_bytes_8 (take 8 bytes) n (omega (arith, length-take 8 bytes)) (AreBytes-take 8 bytes are) (is ∙ ap (λ (x : List ℕ). from_be_bytes w64 x) prefix_is) in
     sym (take-append-drop 8 bytes) ∙ ap (λ (x : List ℕ). x ++ drop 8 bytes) (sym spelled) ∙ ap (λ (x : List ℕ). to_be_bytes w64 n ++ x) (sym rest_is)
 
 pub length-u16_text : (n : ℕ) → length (u16_text n) ≡ 2

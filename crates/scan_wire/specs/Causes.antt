@@ -1,4 +1,4 @@
--- When the bytes at the front of a text are a bad frame, and why; when they are not yet a frame.
+-- When the bytes at the start of a text are a bad frame, and why; when they are not yet a frame.
 use Rattle.std.specs.Prelude.{◌≡◌, ◌≢◌, ℕ, ◌^◌, ◌<◌, ◌≤◌, List, ◌∷◌, ◌++◌, ⊤}
 use Rattle.scan_wire.specs.declared.fault.Cause.{Cause}
 use Rattle.scan_wire.specs.declared.fault.Cause.TheVariants.{Length, Kind, Stream, Payload}
@@ -37,7 +37,7 @@ IsWrong Payload f =
     IsRequestKind f.kind × (f.kind ≡ 0x01 → f.stream ≡ 0)
     × ((r : RequestParts) → IsRequest r → request_frame r ≢ f)
 
--- a whole frame stands at the front, and this is wrong with it
+-- a whole frame stands at the start, and this is wrong with it
 pub record HasWrongFrame (cause : Cause) (text : List ℕ) : Type 0 where
   pub frame : FrameParts
   pub rest : List ℕ
@@ -60,12 +60,12 @@ pub record BeginsWithRequest (text : List ℕ) : Type 0 where
   pub is_request : IsRequest request
   pub text_is : text ≡ request_text request ++ rest
 
--- no frame stands at the front, neither a request's nor a bad one: more bytes have to come
+-- no frame stands at the start, neither a request's nor a bad one: more bytes have to come
 pub record Waits (text : List ℕ) : Type 0 where
   pub no_request : BeginsWithRequest text → ⊥
   pub no_cause : (cause : Cause) → HasCause cause text → ⊥
 
--- a whole frame stands at the front, whatever it carries
+-- a whole frame stands at the start, whatever it carries
 pub record BeginsWithFrame (text : List ℕ) : Type 0 where
   pub frame : FrameParts
   pub rest : List ℕ
@@ -87,10 +87,10 @@ pub record TakesMemory (f : FrameParts) : Type 0 where
   pub stream : f.stream ≡ 0
   pub literals : AnnouncesLiterals f.payload
 
--- such a frame stands at the front
+-- such a frame stands at the start
 pub record BeginsWithList (text : List ℕ) : Type 0 where
-  pub front : BeginsWithFrame text
-  pub takes : TakesMemory front.frame
+  pub prefix : BeginsWithFrame text
+  pub takes : TakesMemory prefix.frame
 
 -- want of memory, or a bad frame whose cause has P
 abbrev pub IfBadFrame : (Cause → Type 0) → Fault → Type 0

@@ -7,8 +7,8 @@ use Rattle.scan_wire.specs.declared.message.Request.{Request}
 use Rattle.scan_wire.specs.declared.message.Request.TheVariants as request
 use Rattle.scan_wire.specs.declared.message.Reply.{Reply}
 use Rattle.scan_wire.specs.declared.message.Reply.TheVariants as reply
-use Rattle.scan_wire.specs.declared.message.Lent.{Lent}
-use Rattle.scan_wire.specs.declared.message.Lent.TheVariants as lent
+use Rattle.scan_wire.specs.declared.message.Borrowed.{Borrowed}
+use Rattle.scan_wire.specs.declared.message.Borrowed.TheVariants as borrowed
 
 -- what a client asks
 pub data RequestParts : Type 0 where
@@ -49,12 +49,12 @@ request_parts (request.Close stream) = Close stream
 request_parts (request.ShowPlan stream) = ShowPlan stream
 
 -- a request whose piece lies where it was read
-abbrev pub lent_parts : Lent → RequestParts
-lent_parts (lent.Publish fold profile literals) = Publish fold profile (texts_of literals.items)
-lent_parts (lent.Open stream number) = Open stream number
-lent_parts (lent.Feed stream bytes) = Feed stream bytes.now
-lent_parts (lent.Close stream) = Close stream
-lent_parts (lent.ShowPlan stream) = ShowPlan stream
+abbrev pub borrowed_parts : Borrowed → RequestParts
+borrowed_parts (borrowed.Publish fold profile literals) = Publish fold profile (texts_of literals.items)
+borrowed_parts (borrowed.Open stream number) = Open stream number
+borrowed_parts (borrowed.Feed stream bytes) = Feed stream bytes.now
+borrowed_parts (borrowed.Close stream) = Close stream
+borrowed_parts (borrowed.ShowPlan stream) = ShowPlan stream
 
 -- a reply
 abbrev pub reply_parts : Reply → ReplyParts

@@ -1,4 +1,4 @@
--- Requests read from the front of a text.
+-- Requests read from the start of a text.
 use Rattle.std.specs.Prelude.{◌≡◌, ◌≢◌, ℕ, ◌+◌, ◌^◌, ◌<◌, ◌≤◌, List, ◌++◌, length, drop, map, All}
 use Rattle.std.specs.List.{flat_map}
 use Rattle.lit_base.specs.declared.fold.Fold.{Fold}
@@ -12,7 +12,7 @@ use Rattle.scan_wire.specs.Messages.{RequestParts, request_parts}
 abbrev pub parts_of : Frame → FrameParts
 parts_of f = record { kind = f.kind; stream = f.stream; payload = f.payload.now }
 
--- a whole frame stands at the front
+-- a whole frame stands at the start
 pub record StartsWithFrame (text : List ℕ) (f : FrameParts) : Type 0 where
   pub is_frame : IsFrame f
   pub within : 9 + length f.payload ≤ length text
@@ -37,7 +37,7 @@ pub record GainsRequests (text : List ℕ) (from to : ℕ) (before after : List 
 abbrev pub NoList : List ℕ → Type 0
 NoList payload = (fold : Fold) (profile : Profile) (literals : List (List ℕ)) → AreLiterals literals → payload ≢ list_text fold profile literals
 
--- no whole literal stands at the front
+-- no whole literal stands at the start
 abbrev pub NoLiteral : List ℕ → Type 0
 NoLiteral bytes = (literal rest : List ℕ) → length literal < 2 ^ 16 → bytes ≢ literal_text literal ++ rest
 

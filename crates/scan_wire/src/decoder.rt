@@ -90,11 +90,11 @@ impl Decoder {
         let read = read_requests(self.alloc, &self.rest, &mut place, out);
         match read {
             Ok(()) => {
-                drop_front(&mut self.rest, place);
+                drop_first(&mut self.rest, place);
                 Ok(())
             }
             Err(Fault::BadFrame { cause }) => {
-                drop_front(&mut self.rest, place);
+                drop_first(&mut self.rest, place);
                 self.cause = Some(cause);
                 Err(Fault::BadFrame { cause })
             }
@@ -114,8 +114,8 @@ impl Decoder {
     }
 }
 
-/// Removes `count` bytes from the front.
-fn drop_front(bytes: &mut Vec<u8>, count: usize)
+/// Removes `count` bytes from the start.
+fn drop_first(bytes: &mut Vec<u8>, count: usize)
     requires { count ≤ length bytes.old.items }
     ensures { bytes.new.items ≡ drop count bytes.old.items }
 {

@@ -1,14 +1,14 @@
-//! A frame at the front of a text, and the request that it is.
+//! A frame at the start of a text, and the request that it is.
 ghost use Rattle.std.specs.Prelude.{◌≡◌, ◌≢◌, ◌^◌, ◌<◌, ◌∷◌, ◌++◌, length, IfErr, IfNone, IfOk, IfSome, MatchOption};
 ghost use Rattle.scan_wire.specs.declared.fault.Fault.TheVariants.{OutOfMemory};
 ghost use Rattle.scan_wire.specs.Causes.{BeginsWithList, HasCause, IfBadFrame, IsWrong, TakesMemory, Waits};
 ghost use Rattle.scan_wire.specs.Frames.{HasFields, request_frame};
-ghost use Rattle.scan_wire.specs.Messages.{lent_parts};
+ghost use Rattle.scan_wire.specs.Messages.{borrowed_parts};
 ghost use Rattle.scan_wire.specs.Numbers.{u32_text};
 ghost use Rattle.scan_wire.specs.Reading.{StartsWith, StartsWithFrame, parts_of};
 
 use crate::fault::{Cause, Fault};
-use crate::message::Lent;
+use crate::message::Borrowed;
 use crate::numbers::first_u32;
 use crate::reading::{BAD_PAYLOAD, list_of, number_of};
 use std::alloc::Global;
@@ -45,7 +45,7 @@ fn frame_of(bytes: &[u8]) -> Option<Frame<'_>>
     })
 }
 
-/// The frame at the front, where it is whole.
+/// The frame at the start, where it is whole.
 fn first_frame(bytes: &[u8]) -> Result<Option<Frame<'_>>, Cause>
     ensures found { IfOk result (λ frame.
         MatchOption frame (Waits bytes.now) (λ f. StartsWithFrame bytes.now (parts_of f))) }
@@ -67,10 +67,10 @@ fn first_frame(bytes: &[u8]) -> Result<Option<Frame<'_>>, Cause>
 }
 
 /// The Publish that the frame is.
-fn publish_of(alloc: Global, frame: Frame<'_>) -> Result<Lent<'_>, Fault>
+fn publish_of(alloc: Global, frame: Frame<'_>) -> Result<Borrowed<'_>, Fault>
     requires { frame.kind ≡ 0x01 }
-    ensures found { IfOk result (λ request. HasFields (lent_parts request)
-        × (request_frame (lent_parts request) ≡ parts_of frame.entry)) }
+    ensures found { IfOk result (λ request. HasFields (borrowed_parts request)
+        × (request_frame (borrowed_parts request) ≡ parts_of frame.entry)) }
     ensures wrong { IfErr result (IfBadFrame (λ cause. IsWrong cause (parts_of frame.entry))) }
     ensures starved { result ≡ Err OutOfMemory → TakesMemory (parts_of frame.entry) }
 {
@@ -80,7 +80,7 @@ fn publish_of(alloc: Global, frame: Frame<'_>) -> Result<Lent<'_>, Fault>
         });
     }
     let (fold, profile, literals) = list_of(alloc, frame.payload)?;
-    Ok(Lent::Publish {
+    Ok(Borrowed::Publish {
         fold,
         profile,
         literals,
@@ -88,65 +88,65 @@ fn publish_of(alloc: Global, frame: Frame<'_>) -> Result<Lent<'_>, Fault>
 }
 
 /// The Open that the frame is.
-fn open_of(frame: Frame<'_>) -> Result<Lent<'_>, Fault>
+fn open_of(frame: Frame<'_>) -> Result<Borrowed<'_>, Fault>
     requires { frame.kind ≡ 0x02 }
-    ensures found { IfOk result (λ request. HasFields (lent_parts request)
-        × (request_frame (lent_parts request) ≡ parts_of frame.entry)) }
+    ensures found { IfOk result (λ request. HasFields (borrowed_parts request)
+        × (request_frame (borrowed_parts request) ≡ parts_of frame.entry)) }
     ensures wrong { IfErr result (IfBadFrame (λ cause. IsWrong cause (parts_of frame.entry))) }
     ensures no_memory { result ≢ Err OutOfMemory }
 {
     let Some(number) = number_of(frame.payload) else {
         return Err(BAD_PAYLOAD);
     };
-    Ok(Lent::Open {
+    Ok(Borrowed::Open {
         stream: frame.stream,
         number,
     })
 }
 
 /// The Close that the frame is.
-fn close_of(frame: Frame<'_>) -> Result<Lent<'_>, Fault>
+fn close_of(frame: Frame<'_>) -> Result<Borrowed<'_>, Fault>
     requires { frame.kind ≡ 0x04 }
-    ensures found { IfOk result (λ request. HasFields (lent_parts request)
-        × (request_frame (lent_parts request) ≡ parts_of frame.entry)) }
+    ensures found { IfOk result (λ request. HasFields (borrowed_parts request)
+        × (request_frame (borrowed_parts request) ≡ parts_of frame.entry)) }
     ensures wrong { IfErr result (IfBadFrame (λ cause. IsWrong cause (parts_of frame.entry))) }
     ensures no_memory { result ≢ Err OutOfMemory }
 {
     if !frame.payload.is_empty() {
         return Err(BAD_PAYLOAD);
     }
-    Ok(Lent::Close {
+    Ok(Borrowed::Close {
         stream: frame.stream,
     })
 }
 
 /// The ShowPlan that the frame is.
-fn show_plan_of(frame: Frame<'_>) -> Result<Lent<'_>, Fault>
+fn show_plan_of(frame: Frame<'_>) -> Result<Borrowed<'_>, Fault>
     requires { frame.kind ≡ 0x05 }
-    ensures found { IfOk result (λ request. HasFields (lent_parts request)
-        × (request_frame (lent_parts request) ≡ parts_of frame.entry)) }
+    ensures found { IfOk result (λ request. HasFields (borrowed_parts request)
+        × (request_frame (borrowed_parts request) ≡ parts_of frame.entry)) }
     ensures wrong { IfErr result (IfBadFrame (λ cause. IsWrong cause (parts_of frame.entry))) }
     ensures no_memory { result ≢ Err OutOfMemory }
 {
     if !frame.payload.is_empty() {
         return Err(BAD_PAYLOAD);
     }
-    Ok(Lent::ShowPlan {
+    Ok(Borrowed::ShowPlan {
         stream: frame.stream,
     })
 }
 
 /// The request that the frame is.
-fn request_of(alloc: Global, frame: Frame<'_>) -> Result<Lent<'_>, Fault>
-    ensures found { IfOk result (λ request. HasFields (lent_parts request)
-        × (request_frame (lent_parts request) ≡ parts_of frame.entry)) }
+fn request_of(alloc: Global, frame: Frame<'_>) -> Result<Borrowed<'_>, Fault>
+    ensures found { IfOk result (λ request. HasFields (borrowed_parts request)
+        × (request_frame (borrowed_parts request) ≡ parts_of frame.entry)) }
     ensures wrong { IfErr result (IfBadFrame (λ cause. IsWrong cause (parts_of frame.entry))) }
     ensures starved { result ≡ Err OutOfMemory → TakesMemory (parts_of frame.entry) }
 {
     match frame.kind {
         0x01 => publish_of(alloc, frame),
         0x02 => open_of(frame),
-        0x03 => Ok(Lent::Feed {
+        0x03 => Ok(Borrowed::Feed {
             stream: frame.stream,
             bytes: frame.payload,
         }),
@@ -156,19 +156,19 @@ fn request_of(alloc: Global, frame: Frame<'_>) -> Result<Lent<'_>, Fault>
     }
 }
 
-/// Reads the request whose frame stands at the front, and how many bytes the frame has. `None`: no
+/// Reads the request whose frame stands at the start, and how many bytes the frame has. `None`: no
 /// frame is whole there, and none is bad, so that more bytes have to come.
 ///
 /// The piece of a Feed stays where it is, and nothing is copied but the literals of a Publish, whose
 /// bytes are all there.
 ///
 /// # Errors
-/// - `BadFrame` with its first cause, where a bad frame stands at the front. A length out of range is reported once its
+/// - `BadFrame` with its first cause, where a bad frame stands at the start. A length out of range is reported once its
 /// four bytes are there, the other causes once the frame is whole.
 /// - `OutOfMemory`, where a growth was refused: only for a whole Publish that announces literals.
-pub fn next(alloc: Global, bytes: &[u8]) -> Result<Option<(Lent<'_>, usize)>, Fault>
+pub fn next(alloc: Global, bytes: &[u8]) -> Result<Option<(Borrowed<'_>, usize)>, Fault>
     ensures found { IfOk result (λ request. MatchOption request (Waits bytes.now)
-        (λ x. StartsWith bytes.now (lent_parts x.0) x.1)) }
+        (λ x. StartsWith bytes.now (borrowed_parts x.0) x.1)) }
     ensures short { IfOk result (λ request. IfNone request (length bytes.now < 65545)) }
     ensures wrong { IfErr result (IfBadFrame (λ cause. HasCause cause bytes.now)) }
     ensures starved { result ≡ Err OutOfMemory → BeginsWithList bytes.now }

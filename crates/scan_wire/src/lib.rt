@@ -16,4 +16,4 @@ pub use encoding::{append_hits, append_reply, encode_reply};
 pub use fault::{Cause, Fault};
 pub use frames::next;
 pub use laws::limits_law;
-pub use message::{Lent, MAX_HITS, MAX_PAYLOAD, Reply, Request};
+pub use message::{Borrowed, MAX_HITS, MAX_PAYLOAD, Reply, Request};

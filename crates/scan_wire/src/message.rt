@@ -1,7 +1,7 @@
 //! What a client asks, and what the server answers.
 ghost use Rattle.std.specs.Prelude.{◌≡◌, IfOk, IsOkUnless, OnErr};
 ghost use Rattle.scan_wire.specs.declared.fault.Fault.TheVariants.{OutOfMemory};
-ghost use Rattle.scan_wire.specs.Messages.{IsFeed, lent_parts, request_parts};
+ghost use Rattle.scan_wire.specs.Messages.{IsFeed, borrowed_parts, request_parts};
 
 use crate::fault::Fault;
 use flow_scan::Hit;
@@ -87,7 +87,7 @@ pub enum Reply {
 
 /// What a client asks, with the piece of a Feed where it was read.
 #[derive(Debug, Drop)]
-pub enum Lent<'a> {
+pub enum Borrowed<'a> {
     /// To plan a list of literals by a profile, and show the plan to all sessions.
     Publish {
         fold: Fold,
@@ -114,15 +114,15 @@ pub enum Lent<'a> {
     },
 }
 
-impl Lent<'_> {
+impl Borrowed<'_> {
     /// The request with a copy of its bytes. The only refusal is `OutOfMemory`, and of a Feed alone.
     pub fn into_request(self, alloc: Global) -> Result<Request, Fault>
-        ensures ok { IfOk result (λ request. request_parts request ≡ lent_parts self.entry) }
+        ensures ok { IfOk result (λ request. request_parts request ≡ borrowed_parts self.entry) }
         ensures refused { IsOkUnless result OutOfMemory }
-        ensures starved { OnErr result (IsFeed (lent_parts self.entry)) }
+        ensures starved { OnErr result (IsFeed (borrowed_parts self.entry)) }
     {
         Ok(match self {
-            Lent::Publish {
+            Borrowed::Publish {
                 fold,
                 profile,
                 literals,
@@ -131,13 +131,13 @@ impl Lent<'_> {
                 profile,
                 literals,
             },
-            Lent::Open { stream, number } => Request::Open { stream, number },
-            Lent::Feed { stream, bytes } => {
+            Borrowed::Open { stream, number } => Request::Open { stream, number },
+            Borrowed::Feed { stream, bytes } => {
                 let bytes = Vec::from_slice(alloc, bytes)?;
                 Request::Feed { stream, bytes }
             }
-            Lent::Close { stream } => Request::Close { stream },
-            Lent::ShowPlan { stream } => Request::ShowPlan { stream },
+            Borrowed::Close { stream } => Request::Close { stream },
+            Borrowed::ShowPlan { stream } => Request::ShowPlan { stream },
         })
     }
 }

@@ -13,8 +13,8 @@ pub fn first_u16(bytes: &[u8]) -> Option<(u16, &[u8])>
     if bytes.len() < 2 {
         return None;
     }
-    let (front, rest) = bytes.split_at(2);
-    Some((u16::from_be_bytes([front[0], front[1]]), rest))
+    let (prefix, rest) = bytes.split_at(2);
+    Some((u16::from_be_bytes([prefix[0], prefix[1]]), rest))
 }
 
 /// The number that the first four bytes are, and the bytes after them, where there are as many.
@@ -25,8 +25,8 @@ pub fn first_u32(bytes: &[u8]) -> Option<(u32, &[u8])>
     if bytes.len() < 4 {
         return None;
     }
-    let (front, rest) = bytes.split_at(4);
-    let number = u32::from_be_bytes([front[0], front[1], front[2], front[3]]);
+    let (prefix, rest) = bytes.split_at(4);
+    let number = u32::from_be_bytes([prefix[0], prefix[1], prefix[2], prefix[3]]);
     Some((number, rest))
 }
 
@@ -38,9 +38,9 @@ pub fn first_u64(bytes: &[u8]) -> Option<(u64, &[u8])>
     if bytes.len() < 8 {
         return None;
     }
-    let (front, rest) = bytes.split_at(8);
+    let (prefix, rest) = bytes.split_at(8);
     let number = u64::from_be_bytes([
-        front[0], front[1], front[2], front[3], front[4], front[5], front[6], front[7],
+        prefix[0], prefix[1], prefix[2], prefix[3], prefix[4], prefix[5], prefix[6], prefix[7],
     ]);
     Some((number, rest))
 }

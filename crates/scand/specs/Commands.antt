@@ -4,7 +4,7 @@ use Rattle.std.specs.Io.KnownBytes.{Appends}
 use Rattle.boxcar.specs.Table.{Shelves}
 use Rattle.byte_io.specs.Devices.{Coming}
 use Rattle.byte_io.specs.Sources.{Sources}
-use Rattle.byte_io.specs.Transfers.{AppendsPrefix, Says}
+use Rattle.byte_io.specs.Transfers.{AppendsPart, Says}
 use Rattle.plan_file.specs.declared.fault.Fault as plan_fault
 use Rattle.plan_store.specs.Tickets as tickets
 use Rattle.program_words.specs.declared.fault.Fault.{Fault}
@@ -23,23 +23,23 @@ use Rattle.scand.specs.declared.words.Service.TheVariants.{Alone, Listen}
 abbrev pub cannot_listen : ℕ → List ℕ
 cannot_listen port = codes "scand: cannot listen on port " ++ (decimal port ++ codes "\n")
 
--- the port is told where the system chose it, and nothing is said of any other
-abbrev pub TellsPort : ℕ → Option (List ℕ) → Option (List ℕ) → Type 0
-TellsPort port err_old err_new =
+-- the port is reported where the system chose it, and no other port is
+abbrev pub ReportsPort : ℕ → Option (List ℕ) → Option (List ℕ) → Type 0
+ReportsPort port err_old err_new =
     ((port ≡ 0) × (chosen : ℕ) × Appends err_old err_new (port_line chosen)) ⊎ ((port ≢ 0) × (err_new ≡ err_old))
 
--- So many connections to a port were served and told of, once the port was told. Or why there were none was said, and
+-- So many connections to a port were served and reported, once the port was reported. Or why there were none was said, and
 -- nothing else was done; or a write failed of the port that the system chose.
 pub data ServesPort (port connections : ℕ) (status : Status) (out_failed err_failed : Bool) (out_old out_new err_old err_new : Option (List ℕ)) : Type 0 where
-  Reported : (err_mid : Option (List ℕ)) → TellsPort port err_old err_mid → ReportsSome connections status out_failed err_failed out_old out_new err_mid err_new
+  Reported : (err_mid : Option (List ℕ)) → ReportsPort port err_old err_mid → ReportsSome connections status out_failed err_failed out_old out_new err_mid err_new
       → ServesPort port connections status out_failed err_failed out_old out_new err_old err_new
-  Untold : (chosen : ℕ) → port ≡ 0 → status ≡ Trouble → Appends out_old out_new [] → err_failed ≡ true → AppendsPrefix err_old err_new (port_line chosen)
+  Unreported : (chosen : ℕ) → port ≡ 0 → status ≡ Trouble → Appends out_old out_new [] → err_failed ≡ true → AppendsPart err_old err_new (port_line chosen)
       → ServesPort port connections status out_failed err_failed out_old out_new err_old err_new
   Unserved : status ≡ Trouble → Appends out_old out_new [] → Says err_failed err_old err_new (cannot_listen port) ⊎ Says err_failed err_old err_new out_of_memory
       → ServesPort port connections status out_failed err_failed out_old out_new err_old err_new
 
 -- one client was served over a store, beside the loaded plans; or connections to a port were, and nothing was read
-abbrev pub Serves : Service → Shelves → List tickets.Told → Status → Type 0 → Bool → Bool → Option Coming → Option Coming → Option (List ℕ) → Option (List ℕ) → Option (List ℕ) → Option (List ℕ) → Type 0
+abbrev pub Serves : Service → Shelves → List tickets.TicketParts → Status → Type 0 → Bool → Bool → Option Coming → Option Coming → Option (List ℕ) → Option (List ℕ) → Option (List ℕ) → Option (List ℕ) → Type 0
 Serves Alone store loaded status read_fault out_failed err_failed coming_old coming_new out_old out_new err_old err_new =
     EndsAlone store loaded status read_fault out_failed coming_old coming_new out_old out_new × (err_new ≡ err_old)
 Serves (Listen port connections) store loaded status read_fault out_failed err_failed coming_old coming_new out_old out_new err_old err_new =
@@ -48,10 +48,10 @@ Serves (Listen port connections) store loaded status read_fault out_failed err_f
 -- A request was served over a store with the plans of the files that it names; or a file could not be loaded, or there was
 -- no memory for a store, and nothing was served.
 pub data Runs (request : Request) (status : Status) (files_old files_new : Option Sources) (read_fault : Type 0) (out_failed err_failed : Bool) (coming_old coming_new : Option Coming) (out_old out_new err_old err_new : Option (List ℕ)) : Type 0 where
-  Served : (store : Shelves) (gained : List tickets.Told) (err_mid : Option (List ℕ)) → LoadsEach store (names_of request.plans.items) (state files_old [] err_old) (state files_new gained err_mid)
+  Served : (store : Shelves) (gained : List tickets.TicketParts) (err_mid : Option (List ℕ)) → LoadsEach store (names_of request.plans.items) (state files_old [] err_old) (state files_new gained err_mid)
       → Serves request.service store gained status read_fault out_failed err_failed coming_old coming_new out_old out_new err_mid err_new
       → Runs request status files_old files_new read_fault out_failed err_failed coming_old coming_new out_old out_new err_old err_new
-  Unplanned : (store : Shelves) (gained : List tickets.Told) (fault : plan_fault.Fault) → status ≡ Trouble → coming_new ≡ coming_old → Appends out_old out_new []
+  Unplanned : (store : Shelves) (gained : List tickets.TicketParts) (fault : plan_fault.Fault) → status ≡ Trouble → coming_new ≡ coming_old → Appends out_old out_new []
       → StopsLoading store (names_of request.plans.items) (state files_old [] err_old) (state files_new gained err_new) fault
       → Runs request status files_old files_new read_fault out_failed err_failed coming_old coming_new out_old out_new err_old err_new
   Starved : status ≡ Trouble → files_new ≡ files_old → coming_new ≡ coming_old → Appends out_old out_new [] → Says err_failed err_old err_new out_of_memory

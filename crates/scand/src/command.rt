@@ -145,7 +145,7 @@ where
     }
 }
 
-/// Serves connections to a port that the system chose. The port is told first; where it cannot be told,
+/// Serves connections to a port that the system chose. The port is reported first; where it cannot be,
 /// nothing is served.
 fn serve_chosen<R, O: ByteOut, E: ByteOut>(
     rt: &R,

@@ -58,7 +58,7 @@ pub fn request_of(alloc: Global, matches: &ArgMatches<'_>) -> Result<Request, Fa
 
 /// The clients to serve by clap's matches, if no option is missing. Clap lets no other number of connections through.
 fn service_of(matches: &ArgMatches<'_>) -> Option<Service>
-    ensures told { IfSome result (IsServiceOf matches.now) }
+    ensures reported { IfSome result (IsServiceOf matches.now) }
     ensures alone { is_used matches.now (codes "stdio") ≡ true → result ≡ Some Service.Alone }
 {
     if matches.get_count("stdio") > 0 {
@@ -83,7 +83,7 @@ fn connections_of(matches: &ArgMatches<'_>) -> Option<Connections>
     Connections::new(matches.get_one::<usize>("connections")?)
 }
 
-/// The files of plans that clap's matches tell, of all uses of the option.
+/// The plan files in clap's matches, of all uses of the option.
 fn plans_of(alloc: Global, matches: &ArgMatches<'_>) -> Result<Vec<String>, AllocError>
     ensures { IfOk result (λ plans. names_of plans.items ≡ texts_of matches.now (codes "plans")) }
 {

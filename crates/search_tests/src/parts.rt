@@ -228,9 +228,9 @@ fn random_plan(alloc: Global, state: &mut u64) -> Result<Compiled, Fail> {
 fn plain_hits(alloc: Global, list: &LitList, text: &[u8]) -> Result<Vec<Hit>, AllocError> {
     let mut hits = Vec::new(alloc);
     for end in 1..=text.len() {
-        let (front, _) = text.split_at(end);
+        let (prefix, _) = text.split_at(end);
         for place in 0..list.len() {
-            if front.ends_with(list.get(place)) {
+            if prefix.ends_with(list.get(place)) {
                 hits.push(Hit {
                     lit: place as u16,
                     end_at: end as u64,

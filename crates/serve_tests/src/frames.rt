@@ -6,7 +6,7 @@ ghost use Rattle.scan_wire.specs.Messages.{reply_parts};
 use flow_scan::Hit;
 use lit_base::{Ends, Fold, Profile};
 use scan_wire::{
-    Cause, Decoder, Fault, Lent, Reply, Request, append_hits, append_reply, encode_reply, next,
+    Borrowed, Cause, Decoder, Fault, Reply, Request, append_hits, append_reply, encode_reply, next,
 };
 use std::alloc::{AllocError, Global};
 use std::test::Fail;
@@ -35,7 +35,7 @@ struct Outcome {
     cause: Option<Cause>,
 }
 
-/// Why the front of the bytes is a bad frame, if it is one.
+/// Why the prefix of the bytes is a bad frame, if it is one.
 fn cause_of(alloc: Global, bytes: &[u8]) -> Result<Option<Cause>, AllocError> {
     match next(alloc, bytes) {
         Err(Fault::BadFrame { cause }) => Ok(Some(cause)),
@@ -44,7 +44,7 @@ fn cause_of(alloc: Global, bytes: &[u8]) -> Result<Option<Cause>, AllocError> {
     }
 }
 
-/// Whether the front of the bytes is no whole frame, and none that is bad.
+/// Whether the prefix of the bytes is no whole frame, and none that is bad.
 fn waits(alloc: Global, bytes: &[u8]) -> Result<bool, Fault> {
     Ok(next(alloc, bytes)?.is_none())
 }
@@ -100,12 +100,12 @@ fn empty_literals(alloc: Global, count: u16) -> Result<Vec<u8>, AllocError> {
     Ok(frame)
 }
 
-/// The fold and the profile of the Publish of `cat` at the front of the bytes, if it is one.
+/// The fold and the profile of the Publish of `cat` at the start of the bytes, if it is one.
 fn publishes_cat(alloc: Global, bytes: &[u8]) -> Result<Option<(Fold, Profile)>, Fault> {
     match next(alloc, bytes)? {
         Some(
             (
-                Lent::Publish {
+                Borrowed::Publish {
                     fold,
                     profile,
                     literals,
@@ -120,17 +120,17 @@ fn publishes_cat(alloc: Global, bytes: &[u8]) -> Result<Option<(Fold, Profile)>,
 }
 
 /// The fold and the profile in the Publish of `cat` with these flags.
-fn told_by_flags(alloc: Global, flags: u8) -> Result<Option<(Fold, Profile)>, Fault> {
+fn known_by_flags(alloc: Global, flags: u8) -> Result<Option<(Fold, Profile)>, Fault> {
     let frame = [
         0, 0, 0, 13, 1, 0, 0, 0, 0, flags, 0, 1, 0, 3, b'c', b'a', b't',
     ];
     publishes_cat(alloc, &frame)
 }
 
-/// The piece of the Feed of stream 7 at the front, if it is one.
+/// The piece of the Feed of stream 7 at the start, if it is one.
 fn fed(alloc: Global, bytes: &[u8]) -> Result<Option<&[u8]>, Fault> {
     match next(alloc, bytes)? {
-        Some((Lent::Feed { stream: 7, bytes }, _)) => Ok(Some(bytes)),
+        Some((Borrowed::Feed { stream: 7, bytes }, _)) => Ok(Some(bytes)),
         _ => Ok(None),
     }
 }
@@ -145,17 +145,17 @@ fn is_written(alloc: Global, reply: &Reply, text: &[u8]) -> Result<bool, Fail>
 
 /// A request's kind and stream, and a number: of a Publish how many literals, of an Open the plan, of
 /// a Feed how many bytes.
-fn fields_of(request: &Lent<'_>) -> (u8, u32, u64) {
+fn fields_of(request: &Borrowed<'_>) -> (u8, u32, u64) {
     match request {
-        Lent::Publish { literals, .. } => (1, 0, literals.len() as u64),
-        Lent::Open { stream, number } => (2, *stream, *number),
-        Lent::Feed { stream, bytes } => (3, *stream, bytes.len() as u64),
-        Lent::Close { stream } => (4, *stream, 0),
-        Lent::ShowPlan { stream } => (5, *stream, 0),
+        Borrowed::Publish { literals, .. } => (1, 0, literals.len() as u64),
+        Borrowed::Open { stream, number } => (2, *stream, *number),
+        Borrowed::Feed { stream, bytes } => (3, *stream, bytes.len() as u64),
+        Borrowed::Close { stream } => (4, *stream, 0),
+        Borrowed::ShowPlan { stream } => (5, *stream, 0),
     }
 }
 
-/// The kind, the stream and the number of the request at the front, if it is whole, and how many bytes its frame has.
+/// The kind, the stream and the number of the request at the start, if it is whole, and how many bytes its frame has.
 fn read(alloc: Global, bytes: &[u8]) -> Result<Option<((u8, u32, u64), usize)>, Fault> {
     match next(alloc, bytes)? {
         Some((request, len)) => Ok(Some((fields_of(&request), len))),
@@ -177,17 +177,17 @@ fn reads_a_publish_and_a_feed(rt: HostRuntime) -> Result<(), Fail> {
 #[test]
 fn reads_fold_and_profile(rt: HostRuntime) -> Result<(), Fail> {
     let alloc = rt.alloc();
-    assert_eq!(rt; told_by_flags(alloc, 0)?, Some((Fold::No, Profile::Eight)));
+    assert_eq!(rt; known_by_flags(alloc, 0)?, Some((Fold::No, Profile::Eight)));
     assert_eq!(rt;
-        told_by_flags(alloc, 1)?,
+        known_by_flags(alloc, 1)?,
         Some((Fold::Ascii, Profile::Eight))
     );
     assert_eq!(rt;
-        told_by_flags(alloc, 2)?,
+        known_by_flags(alloc, 2)?,
         Some((Fold::No, Profile::Sixteen))
     );
     assert_eq!(rt;
-        told_by_flags(alloc, 3)?,
+        known_by_flags(alloc, 3)?,
         Some((Fold::Ascii, Profile::Sixteen))
     );
     Ok(())
@@ -205,7 +205,7 @@ fn reads_each_kind(rt: HostRuntime) -> Result<(), Fail> {
 }
 
 #[test]
-fn tells_a_bad_length_at_once(rt: HostRuntime) -> Result<(), Fail> {
+fn reports_a_bad_length_at_once(rt: HostRuntime) -> Result<(), Fail> {
     let alloc = rt.alloc();
     assert_eq!(rt; cause_of(alloc, &[0, 0, 0, 4])?, Some(Cause::Length));
     assert_eq!(rt; cause_of(alloc, &[0, 1, 0, 6])?, Some(Cause::Length));
@@ -215,7 +215,7 @@ fn tells_a_bad_length_at_once(rt: HostRuntime) -> Result<(), Fail> {
 }
 
 #[test]
-fn tells_other_causes_of_whole_frames(rt: HostRuntime) -> Result<(), Fail> {
+fn reports_other_causes_of_whole_frames(rt: HostRuntime) -> Result<(), Fail> {
     let alloc = rt.alloc();
     assert_eq!(rt;
         cause_of(alloc, &[0, 0, 0, 5, 0, 0, 0, 0, 7])?,
@@ -235,7 +235,7 @@ fn tells_other_causes_of_whole_frames(rt: HostRuntime) -> Result<(), Fail> {
 }
 
 #[test]
-fn tells_wrong_payloads_of_a_publish(rt: HostRuntime) -> Result<(), Fail> {
+fn reports_wrong_payloads_of_a_publish(rt: HostRuntime) -> Result<(), Fail> {
     let alloc = rt.alloc();
     // No flags, unknown flags, no count, a cut literal, a rest.
     assert_eq!(rt;
@@ -262,7 +262,7 @@ fn tells_wrong_payloads_of_a_publish(rt: HostRuntime) -> Result<(), Fail> {
 }
 
 #[test]
-fn tells_other_wrong_payloads(rt: HostRuntime) -> Result<(), Fail> {
+fn reports_other_wrong_payloads(rt: HostRuntime) -> Result<(), Fail> {
     let alloc = rt.alloc();
     // A number of seven bytes; something where nothing is wanted.
     let seven = [0, 0, 0, 12, 2, 0, 0, 0, 7, 0, 0, 0, 0, 0, 0, 0];
@@ -306,7 +306,7 @@ fn holds_a_part_of_a_frame(rt: HostRuntime) -> Result<(), Fail> {
 }
 
 #[test]
-fn tells_a_bad_frame_for_good(rt: HostRuntime) -> Result<(), Fail> {
+fn reports_a_bad_frame_for_good(rt: HostRuntime) -> Result<(), Fail> {
     let outcome = in_two(rt.alloc(), &[0, 0, 0, 4], &FRAMES)?;
     assert_eq!(rt;
         outcome,

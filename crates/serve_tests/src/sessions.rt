@@ -25,7 +25,7 @@ enum Ask<'a> {
 /// What a reply says: of hits how many, and the last place; of a plan its fold, profile, count, cost, runs; or that memory
 /// ran out.
 #[derive(Clone, Copy, Debug, PartialEq, Eq)]
-enum Told {
+enum ReplyKind {
     Published(u64),
     Opened(u32),
     Hits(u32, usize, u64),
@@ -37,10 +37,10 @@ enum Told {
 }
 
 /// Up to three replies to one request.
-type Replies = [Option<Told>; 3];
+type Replies = [Option<ReplyKind>; 3];
 
 /// What stands for them where memory ran out.
-const STARVED: Replies = [Some(Told::OutOfMemory), None, None];
+const STARVED: Replies = [Some(ReplyKind::OutOfMemory), None, None];
 
 /// The replies, none where memory ran out.
 fn unless_starved(replies: Replies) -> Option<Replies> {
@@ -52,21 +52,21 @@ fn unless_starved(replies: Replies) -> Option<Replies> {
 }
 
 /// One reply.
-fn one(said: Told) -> Replies {
+fn one(said: ReplyKind) -> Replies {
     [Some(said), None, None]
 }
 
 /// What a reply says.
-fn said(reply: &Reply) -> Told {
+fn said(reply: &Reply) -> ReplyKind {
     match reply {
-        Reply::Published { number } => Told::Published(*number),
-        Reply::Opened { stream } => Told::Opened(*stream),
+        Reply::Published { number } => ReplyKind::Published(*number),
+        Reply::Opened { stream } => ReplyKind::Opened(*stream),
         Reply::Hits { stream, hits } => {
             let last = hits.last().map_or(0, |hit| hit.end_at);
-            Told::Hits(*stream, hits.len(), last)
+            ReplyKind::Hits(*stream, hits.len(), last)
         }
-        Reply::Fed { stream, place } => Told::Fed(*stream, *place),
-        Reply::Closed { stream } => Told::Closed(*stream),
+        Reply::Fed { stream, place } => ReplyKind::Fed(*stream, *place),
+        Reply::Closed { stream } => ReplyKind::Closed(*stream),
         Reply::Plan {
             stream,
             fold,
@@ -74,12 +74,12 @@ fn said(reply: &Reply) -> Told {
             count,
             cost,
             ends,
-        } => Told::Plan(*stream, *fold, *profile, *count, *cost, ends.len()),
+        } => ReplyKind::Plan(*stream, *fold, *profile, *count, *cost, ends.len()),
         Reply::Refused {
             stream,
             code,
             detail,
-        } => Told::Refused(*stream, *code, *detail),
+        } => ReplyKind::Refused(*stream, *code, *detail),
     }
 }
 
@@ -175,7 +175,11 @@ const CONCAT: Ask = Ask::Feed(7, b"concat");
 const OPEN: Ask = Ask::Open(7, 0);
 
 /// The replies to `concat`, or to what completes it.
-const OF_CONCAT: Replies = [Some(Told::Hits(7, 1, 6)), Some(Told::Fed(7, 6)), None];
+const OF_CONCAT: Replies = [
+    Some(ReplyKind::Hits(7, 1, 6)),
+    Some(ReplyKind::Fed(7, 6)),
+    None,
+];
 
 /// Asserts the answer of a session of a new store to the last ask.
 fn assert_last<R: Abort + AllocGlobal + Wait>(rt: &R, asks: &[Ask<'_>], wanted: Replies) {
@@ -184,13 +188,13 @@ fn assert_last<R: Abort + AllocGlobal + Wait>(rt: &R, asks: &[Ask<'_>], wanted: 
 
 #[test]
 fn answers_each_kind_of_request(rt: HostRuntime) {
-    let plan = Told::Plan(7, Fold::No, Profile::Eight, 1, 351, 1);
-    assert_last(&rt, &[CAT], one(Told::Published(0)));
-    assert_last(&rt, &[CAT, OPEN], one(Told::Opened(7)));
+    let plan = ReplyKind::Plan(7, Fold::No, Profile::Eight, 1, 351, 1);
+    assert_last(&rt, &[CAT], one(ReplyKind::Published(0)));
+    assert_last(&rt, &[CAT, OPEN], one(ReplyKind::Opened(7)));
     assert_last(&rt, &[CAT, OPEN, CONCAT], OF_CONCAT);
     assert_last(&rt, &[CAT, OPEN, Ask::ShowPlan(7)], one(plan));
-    assert_last(&rt, &[CAT, OPEN, Ask::Close(7)], one(Told::Closed(7)));
-    assert_last(&rt, &[CONCAT], one(Told::Refused(7, 13, 0)));
+    assert_last(&rt, &[CAT, OPEN, Ask::Close(7)], one(ReplyKind::Closed(7)));
+    assert_last(&rt, &[CONCAT], one(ReplyKind::Refused(7, 13, 0)));
 }
 
 /// Nine literals that sixteen buckets hold in a run each, and eight do not.
@@ -199,10 +203,10 @@ const LETTERS: [&[u8]; 9] = [b"a", b"b", b"c", b"d", b"e", b"f", b"g", b"h", b"i
 #[test]
 fn plans_by_the_profile_asked_for(rt: HostRuntime) {
     let by_eight = Ask::Publish(Fold::No, Profile::Eight, &LETTERS);
-    let eight = Told::Plan(7, Fold::No, Profile::Eight, 9, 46656, 8);
+    let eight = ReplyKind::Plan(7, Fold::No, Profile::Eight, 9, 46656, 8);
     assert_last(&rt, &[by_eight, OPEN, Ask::ShowPlan(7)], one(eight));
     let by_sixteen = Ask::Publish(Fold::No, Profile::Sixteen, &LETTERS);
-    let sixteen = Told::Plan(7, Fold::No, Profile::Sixteen, 9, 38664, 9);
+    let sixteen = ReplyKind::Plan(7, Fold::No, Profile::Sixteen, 9, 38664, 9);
     assert_last(&rt, &[by_sixteen, OPEN, Ask::ShowPlan(7)], one(sixteen));
 }
 
@@ -231,10 +235,10 @@ fn assert_another<R: Abort + AllocGlobal + Wait>(rt: &R, asks: &[Ask<'_>], wante
 
 #[test]
 fn opens_what_another_session_published(rt: HostRuntime) {
-    assert_another(&rt, &[Ask::Open(7, 1)], one(Told::Opened(7)));
+    assert_another(&rt, &[Ask::Open(7, 1)], one(ReplyKind::Opened(7)));
     assert_another(&rt, &[Ask::Open(7, 1), CONCAT], OF_CONCAT);
-    assert_another(&rt, &[OPEN, CONCAT], one(Told::Fed(7, 6)));
-    assert_another(&rt, &[Ask::Open(7, 2)], one(Told::Refused(7, 14, 0)));
+    assert_another(&rt, &[OPEN, CONCAT], one(ReplyKind::Fed(7, 6)));
+    assert_another(&rt, &[Ask::Open(7, 2)], one(ReplyKind::Refused(7, 14, 0)));
 }
 
 /// The number in a Published reply.
@@ -302,6 +306,10 @@ fn answers_of_two<R: Threads + Wait + Sync>(rt: &R, alloc: Global) -> Option<(Re
 
 #[test]
 fn opens_in_each_of_two_threads_what_the_other_published(rt: HostRuntime) {
-    let of_con = [Some(Told::Hits(7, 1, 3)), Some(Told::Fed(7, 6)), None];
+    let of_con = [
+        Some(ReplyKind::Hits(7, 1, 3)),
+        Some(ReplyKind::Fed(7, 6)),
+        None,
+    ];
     assert_eq!(rt; answers_of_two(&rt, rt.alloc()), Some((of_con, OF_CONCAT)));
 }

@@ -12,7 +12,7 @@ use Rattle.shift_search.proofs.ShiftOrLemmas.{none_of_word, none_of_words}
 pub one_more : (b : Bucketing) (text : List ℕ) (at group count more : ℕ) (words four numbers : List ℕ) → length four ≡ 4 → 4 * group + 4 ≤ length words → count < length numbers → more ≤ 1
     → RulesOutWords b text (at + 32 * group) four → (more ≡ 1) ⊎ NoEndUpTo b.literals text (at + 32 * group - 1) (at + 32 * group + 31) → IsBlock b text at group words numbers count
     → IsBlock b text at (group + 1) (put_chunk (4 * group) words four) (slice_set numbers count group) (count + more)
-one_more b text at group count more words four numbers long room place upto rules told block = record {
+one_more b text at group count more words four numbers long room place upto rules known block = record {
   rules = λ word below. elim (cases_lt word (4 * group)) [
     | inl sooner ↦ subst (RulesOut b text (at + 8 * word)) (sym (get_or-put_chunk_below (4 * group) words four word 0 sooner)) (block.rules word sooner)
     | inr past ↦
@@ -37,7 +37,7 @@ one_more b text at group count more words four numbers long room place upto rule
     ]
     | inr past ↦
         let here : group ≡ other = omega (arith, past, below) in
-        elim told [
+        elim known [
           | inl one ↦ inr (record { slot = count; below = omega (arith, one); is = get_or-set_same numbers count group 0 place ∙ here })
           | inr quiet ↦ inl (subst (λ g. NoEndUpTo b.literals text (at + 32 * g - 1) (at + 32 * g + 31)) here quiet)
         ]
@@ -57,7 +57,7 @@ word_still words old new before after word more kept (inr noted) = inr (noted_st
 pub words_noted : (b : Bucketing) (text : List ℕ) (at groups : ℕ) (words numbers noted : List ℕ) (count found : ℕ) → 8 ≤ at → IsBlock b text at groups words numbers count
     → ((slot : ℕ) → slot < found → slice_index noted slot < 4 * groups) → ((slot i : ℕ) → slot < count → i < 4 → IsNotedUnlessFull words noted found (4 * slice_index numbers slot + i))
     → AreNoted b text at groups words noted found
-words_noted b text at groups words numbers noted count found some block inside told = record {
+words_noted b text at groups words numbers noted count found some block inside known = record {
   rules = block.rules;
   inside = inside;
   noted = λ word below.
@@ -66,7 +66,7 @@ words_noted b text at groups words numbers noted count found some block inside t
       let here : 4 * group + i ≡ word = omega arith in
       elim (block.noted group (omega (arith, below))) [
         | inl quiet ↦ inl (λ end after upto. quiet end (omega (arith, after, some)) (omega (arith, upto)))
-        | inr slot ↦ elim (told slot.slot i slot.below (omega arith)) [
+        | inr slot ↦ elim (known slot.slot i slot.below (omega arith)) [
           | inl full ↦
               let there : 4 * slice_index numbers slot.slot + i ≡ word = omega (arith, slot.is, here) in
               inl (none_of_word b text (at + 8 * word) (slice_index words word) (omega (arith, some)) (block.rules word below) (ap (slice_index words) (sym there) ∙ full))

@@ -311,10 +311,10 @@ finds_further l text from at start stop last None ahead near within before finds
 finds_further l text from at start stop last (Some hit) ahead near within before finds = found_further l text from at start hit.0 hit.1 ahead near before finds
 
 -- the ends found at a text's start, up to some position
-pub found_in_front : (l : Literals) (text : List ℕ) (from front last : ℕ) (found : Option (ℕ × ℕ)) → from < front → last ≡ min (length text) front → Finds l text from last found → IfSome found (λ hit. hit.0 ≤ last)
-    → MatchOption found (NoEndUpTo l text from (max from front)) (λ hit. (hit.0 ≤ front) × IsFirstFound l text from hit.0 hit.1)
-found_in_front l text from front last None ahead is finds within = λ end beyond upto here. finds end beyond (omega (arith, upto, ahead, is, here.1.ends)) here
-found_in_front l text from front last (Some hit) ahead is finds within = (omega (arith, within, is), finds)
+pub found_in_prefix : (l : Literals) (text : List ℕ) (from prefix last : ℕ) (found : Option (ℕ × ℕ)) → from < prefix → last ≡ min (length text) prefix → Finds l text from last found → IfSome found (λ hit. hit.0 ≤ last)
+    → MatchOption found (NoEndUpTo l text from (max from prefix)) (λ hit. (hit.0 ≤ prefix) × IsFirstFound l text from hit.0 hit.1)
+found_in_prefix l text from prefix last None ahead is finds within = λ end beyond upto here. finds end beyond (omega (arith, upto, ahead, is, here.1.ends)) here
+found_in_prefix l text from prefix last (Some hit) ahead is finds within = (omega (arith, within, is), finds)
 
 -- a position at which no literal ends
 pub none_one : (l : Literals) (text : List ℕ) (at : ℕ) → NoneEnds l text 0 (at + 1) → NoEndUpTo l text at (at + 1)
@@ -458,13 +458,13 @@ own_key fold text end width word bits bytes narrow eight inside fits is case = �
 pub confirmed-occurs : (l : Literals) (buckets : List ℕ) (confirms : Confirms) (text : List ℕ) (place end word width : ℕ) → AreConfirmsOf l buckets confirms → AreBytes text → 8 ≤ end → end ≤ length text
     → word ≡ spelled (slice_range text (end - 8) end) → width ≡ slice_index confirms.widths.items (bucket_at buckets place) → Occurs l text place end
     → bit_at (slice_index confirms.table.items (hash_of CONFIRM_BITS (bit_or (bit_and word (last_bits width)) confirms.case_bits))) (bucket_at buckets place) ≡ 1
-confirmed-occurs l buckets confirms text place end word width of bytes eight inside is told occurs =
+confirmed-occurs l buckets confirms text place end word width of bytes eight inside is known occurs =
     let there = slice_get_within l.texts place occurs.literal occurs.stands in
     let bucket : ℕ = bucket_at buckets place in
-    let narrow : width ≤ 8 = omega (arith, told, of.narrow bucket (few_buckets buckets place)) in
+    let narrow : width ≤ 8 = omega (arith, known, of.narrow bucket (few_buckets buckets place)) in
     let fits : word < 2 ^ 64 = subst (λ n. n < 2 ^ 64) (sym is) (spelled_fits text end bytes eight inside) in
     let key : bit_or (bit_and word (last_bits width)) confirms.case_bits ≡ suffix_key l.folding (literal_at l place) (length (literal_at l place)) width =
-    own_key l.folding text end width word confirms.case_bits bytes narrow eight inside fits is of.case ∙ key-occurs l text place end width bytes narrow (omega (arith, told, of.long place there)) occurs in
+    own_key l.folding text end width word confirms.case_bits bytes narrow eight inside fits is of.case ∙ key-occurs l text place end width bytes narrow (omega (arith, known, of.long place there)) occurs in
     ap (λ k. bit_at (slice_index confirms.table.items (hash_of CONFIRM_BITS k)) bucket) key
-    ∙ ap (λ w. bit_at (slice_index confirms.table.items (hash_of CONFIRM_BITS (suffix_key l.folding (literal_at l place) (length (literal_at l place)) w))) bucket) told
+    ∙ ap (λ w. bit_at (slice_index confirms.table.items (hash_of CONFIRM_BITS (suffix_key l.folding (literal_at l place) (length (literal_at l place)) w))) bucket) known
     ∙ of.confirmed place there

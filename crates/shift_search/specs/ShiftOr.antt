@@ -3,7 +3,7 @@ use Rattle.std.specs.Prelude.{◌≡◌, ℕ, ◌+◌, ◌-◌, ◌*◌, ◌%◌
 use Rattle.std.specs.Int.{bit_at}
 use Rattle.std.specs.Int.RustNames.{bit_or}
 use Rattle.lit_base.specs.Literals.{Literals, literal_at}
-use Rattle.list_index.specs.Marks.{IsMarked}
+use Rattle.list_index.specs.HashBits.{IsMarked}
 use Rattle.lit_base.specs.Occurrences.{Occurs}
 use Rattle.list_index.specs.Suffixes.{case_bits, hash_of, suffix_key}
 use Rattle.lit_base.specs.declared.fold.Fold.{Fold}

@@ -1,7 +1,7 @@
 //! A second check of shift-or, bucket by bucket, before any chain of literals is walked.
 ghost use Rattle.std.specs.Prelude.{◌≡◌, ℕ, ◌^◌, ◌<◌, ◌≤◌, ◌⊎◌, IfOk, length, slice_index, vec_len};
 ghost use Rattle.lit_base.specs.Literals.{literal_at};
-ghost use Rattle.list_index.specs.Marks.{IsMarked};
+ghost use Rattle.list_index.specs.HashBits.{IsMarked};
 ghost use Rattle.list_index.specs.Suffixes.{hash_of, suffix_key};
 ghost use Rattle.shift_search.specs.ShiftOr.{AreConfirmsOf, IsConfirmOf, IsConfirmed, bucket_at};
 ghost use Rattle.shift_search.specs.declared.confirming.TheConstants.{CONFIRM_BITS};

@@ -45,7 +45,7 @@ pub(crate) fn estimate(entries: &[u64], sample: &[u8], stride: Stride, rate: End
 fn count_left(entries: &[u64], sample: &[u8], stride: Stride) -> (usize, usize)
     requires { length entries.now ≡ ENTRIES }
 {
-    let told = match stride {
+    let count = match stride {
         Stride::One => 1,
         Stride::Two => 2,
     };
@@ -54,9 +54,9 @@ fn count_left(entries: &[u64], sample: &[u8], stride: Stride) -> (usize, usize)
         if stretch.len() == SPARSE {
             let at = SPARSE - (PLACES - 1);
             let probes = probes_by(entries, stretch, at, stride);
-            let unruled = !probes.here >> (64 - 8 * told);
+            let unruled = !probes.here >> (64 - 8 * count);
             left = left.saturating_add(unruled.count_ones() as usize);
-            all = all.saturating_add(told);
+            all = all.saturating_add(count);
         }
     }
     (left, all)

@@ -7,7 +7,7 @@ ghost use Rattle.lit_base.specs.NextEnds.{Finds, IsFirstFound, NoEndUpTo};
 ghost use Rattle.shift_search.specs.ShiftOr.{AreEntriesOf, NoneOf, RulesOut, RulesOutWords};
 ghost use Rattle.shift_search.specs.Probes.{AreProbes, AreProbesAfter, IsVerified};
 ghost use Rattle.shift_search.specs.declared.blocks.TheConstants.{GROUP, GROUPS};
-ghost use Rattle.shift_search.specs.declared.shift_or.TheConstants.{FRONT};
+ghost use Rattle.shift_search.specs.declared.shift_or.TheConstants.{FIRST};
 
 use crate::blocks::{GROUP, GROUPS, note_words, probe_block};
 use crate::confirming::{CONFIRM_BITS, Confirms};
@@ -28,7 +28,7 @@ use text_ends::EndRate;
 
 /// Bytes at the start of a text that are searched without probes. After them, eight positions can be probed before the
 /// first end, with eight bytes before each.
-const FRONT: usize = 15;
+const FIRST: usize = 15;
 
 /// A position up to which nothing ends, what the last probes rule out after it, and from where on blocks may be tried.
 #[derive(Clone, Copy)]
@@ -154,7 +154,7 @@ impl ShiftOr {
     pub fn probes_after(&self, text: &[u8], from: usize) -> Probes
         ensures { AreProbesAfter self.now text.now from result }
     {
-        let start = from.max(FRONT);
+        let start = from.max(FIRST);
         let carried = if start > text.len() {
             0
         } else {
@@ -239,7 +239,7 @@ impl ShiftOr {
         ensures probes { IfSome result (λ found. AreProbesAfter self.now text.now found.0 probes.new) }
         ensures over { IfNone result (probes.new ≡ probes.old) }
     {
-        if let Some(found) = self.end_in_front(text, from) {
+        if let Some(found) = self.end_in_prefix(text, from) {
             return Some(found);
         }
         if let Some(found) = self.end_left(text, *probes, left) {
@@ -395,8 +395,8 @@ impl ShiftOr {
     ) -> Option<(usize, usize)>
         requires entries { AreEntriesOf self.now.literals self.now.buckets entries.now }
         requires some { 8 ≤ rest.at }
-        requires near { max from FRONT ≤ rest.at + 7 }
-        requires within { rest.at + 7 ≤ max (max from FRONT) (length text.now) }
+        requires near { max from FIRST ≤ rest.at + 7 }
+        requires within { rest.at + 7 ≤ max (max from FIRST) (length text.now) }
         requires none { NoEndUpTo self.now.literals text.now from (rest.at + 7) }
         requires carried { RulesOut self.now text.now (rest.at + 8) rest.carried }
         ensures next { Finds self.now.literals text.now from (length text.now) result }
@@ -430,15 +430,15 @@ impl ShiftOr {
 
     /// The first end after a position among those that are searched without probes.
     #[inline(always)]
-    fn end_in_front(&self, text: &[u8], from: usize) -> Option<(usize, usize)>
+    fn end_in_prefix(&self, text: &[u8], from: usize) -> Option<(usize, usize)>
         ensures { MatchOption result
-            (NoEndUpTo self.now.literals text.now from (max from FRONT))
-            (λ found. (found.0 ≤ FRONT) × IsFirstFound self.now.literals text.now from found.0 found.1) }
+            (NoEndUpTo self.now.literals text.now from (max from FIRST))
+            (λ found. (found.0 ≤ FIRST) × IsFirstFound self.now.literals text.now from found.0 found.1) }
     {
-        if from >= FRONT {
+        if from >= FIRST {
             return None;
         }
-        self.first_between(text, from, text.len().min(FRONT))
+        self.first_between(text, from, text.len().min(FIRST))
     }
 
     /// The first end that probes did not rule out and at which some literal ends, with the first such literal.

@@ -1,4 +1,4 @@
-pub mod FrontLemmas
+pub mod PrefixLemmas
 pub mod QuietLemmas
 pub mod ReadLemmas
 pub mod OutputLemmas

@@ -10,18 +10,18 @@ use Rattle.lit_base.specs.Occurrences.{HasEnd, Occurs}
 use Rattle.lit_base.specs.declared.fold.Fold.{Fold}
 use Rattle.text_automaton.specs.Automata.{AreEnding, IsReading, IsStateAt, Outputs, place_of, output_of}
 use Rattle.text_automaton.specs.declared.reading.Reading.{Reading}
-use Rattle.text_automaton.specs.Fronts.{Begins, IsNextShorter, IsPath, IsRead, Leads, read_of, state_after}
+use Rattle.text_automaton.specs.Prefixes.{Begins, IsNextShorter, IsPath, IsRead, Leads, read_of, state_after}
 use Rattle.text_automaton.specs.Stages.{is_made}
 use Rattle.text_automaton.specs.declared.automaton.Stage.{Stage}
 use Rattle.text_automaton.specs.declared.automaton.Stage.TheVariants.{Made, Refused, Unmade}
-use Rattle.text_automaton.specs.Tables.{AreRight, IsKnown, front_of, state_of, step, output_at}
+use Rattle.text_automaton.specs.Tables.{AreRight, IsKnown, prefix_of, state_of, step, output_at}
 use Rattle.text_automaton.specs.declared.tables.Tables.{Tables}
-use Rattle.text_automaton.proofs.FrontLemmas.{begins_refl, begins_short, begins_trans, begins_whole, falls_to, goes_on, leads_none, leads_on, one_path, state_small}
+use Rattle.text_automaton.proofs.PrefixLemmas.{begins_refl, begins_short, begins_trans, begins_whole, falls_to, goes_on, leads_none, leads_on, one_path, state_small}
 
 -- a literal's prefix of `count` bytes has this length
-front_length : (text : List ℕ) (count : ℕ) → length (front_of text count) ≡ count
-front_length text zero = refl
-front_length text (suc count) = let rest = front_length text count in omega (arith, rest)
+prefix_length : (text : List ℕ) (count : ℕ) → length (prefix_of text count) ≡ count
+prefix_length text zero = refl
+prefix_length text (suc count) = let rest = prefix_length text count in omega (arith, rest)
 
 module _ (t : Tables) (l : Literals) (right : AreRight t l) where
   -- a byte of a text, folded, is the byte of its class
@@ -48,15 +48,15 @@ module _ (t : Tables) (l : Literals) (right : AreRight t l) where
       )
 
   -- a literal's prefixes are paths
-  literal_path : (place : ℕ) → place < length l.texts → (count : ℕ) → count ≤ length (literal_at l place) → IsPath t (front_of (literal_at l place) count)
+  literal_path : (place : ℕ) → place < length l.texts → (count : ℕ) → count ≤ length (literal_at l place) → IsPath t (prefix_of (literal_at l place) count)
   literal_path place within zero few = tt
   literal_path place within (suc count) few =
-      let longer = (right.spelled place within).fronts count (omega (arith, few)) in
+      let longer = (right.spelled place within).prefixes count (omega (arith, few)) in
       (literal_path place within count (omega (arith, few)), longer.0, longer.1)
 
   -- the whole literal
   abbrev whole : ℕ → List ℕ
-  whole place = front_of (literal_at l place) (length (literal_at l place))
+  whole place = prefix_of (literal_at l place) (length (literal_at l place))
 
   whole_path : (place : ℕ) → place < length l.texts → IsPath t (whole place)
   whole_path place within = literal_path place within (length (literal_at l place)) (omega arith)
@@ -74,7 +74,7 @@ module _ (t : Tables) (l : Literals) (right : AreRight t l) where
     reports_none place =
         let none = (right.reporting 0 right.sized.some).first refl in (
           λ inside. let out : Contains [] place = subst (λ xs. Contains xs place) none inside in absurd (omega (arith, out.1)),
-          λ within begins. let short = begins_short (whole place) [] begins in absurd (omega (arith, short, front_length (literal_at l place) (length (literal_at l place)), some_bytes place within)),
+          λ within begins. let short = begins_short (whole place) [] begins in absurd (omega (arith, short, prefix_length (literal_at l place) (length (literal_at l place)), some_bytes place within)),
         )
 
     reports_more : (s f : List ℕ) → 0 < length s → IsPath t s → state_of t f ≡ slice_index t.fails.items (state_of t s) → IsNextShorter t s f → 0 < state_of t s → Reports f → Reports s
@@ -131,7 +131,7 @@ module _ (t : Tables) (l : Literals) (right : AreRight t l) where
     reports s path = reports_all (length s) s (omega arith) path
 
 -- the last bytes that were read, from a prefix that ends them
-bytes_of_begins : (fold : Fold) (literal text : List ℕ) (from : ℕ) (len count : ℕ) → Begins (front_of literal len) (read_of fold text from count)
+bytes_of_begins : (fold : Fold) (literal text : List ℕ) (from : ℕ) (len count : ℕ) → Begins (prefix_of literal len) (read_of fold text from count)
     → (len ≤ count) × ((i : ℕ) → i < len → slice_index literal i ≡ folded fold (slice_index text (from + (count - len) + i)))
 bytes_of_begins fold literal text from zero count begins = (omega arith, λ i low. absurd (omega (arith, low)))
 bytes_of_begins fold literal text from (suc len) zero begins = elim begins [ ]
@@ -151,7 +151,7 @@ bytes_of_begins fold literal text from (suc len) (suc count) begins =
 
 -- and the other way round
 begins_of_bytes : (fold : Fold) (literal text : List ℕ) (from : ℕ) (len count : ℕ) → len ≤ count → ((i : ℕ) → i < len → slice_index literal i ≡ folded fold (slice_index text (from + (count - len) + i)))
-    → Begins (front_of literal len) (read_of fold text from count)
+    → Begins (prefix_of literal len) (read_of fold text from count)
 begins_of_bytes fold literal text from zero count fits same = tt
 begins_of_bytes fold literal text from (suc len) zero fits same = absurd (omega (arith, fits))
 begins_of_bytes fold literal text from (suc len) (suc count) fits same =
@@ -173,7 +173,7 @@ folded_length fold text low high ordered inside = omega (arith, ordered, inside,
 
 -- the literals that end the bytes read are those that end at the position, if reading began far enough before it
 ends_of_begins : (l : Literals) (text : List ℕ) (from count place end : ℕ) → from + count ≡ end → end ≤ length text → place < length l.texts
-    → Begins (front_of (literal_at l place) (length (literal_at l place))) (read_of l.folding text from count) → Occurs l text place end
+    → Begins (prefix_of (literal_at l place) (length (literal_at l place))) (read_of l.folding text from count) → Occurs l text place end
 ends_of_begins l text from count place end here inside within begins =
     let literal = literal_at l place in
     let len = length literal in
@@ -193,13 +193,13 @@ ends_of_begins l text from count place end here inside within begins =
     }
 
 begins_of_ends : (l : Literals) (text : List ℕ) (from count place end : ℕ) → from + count ≡ end → (from ≡ 0) ⊎ (from + length (literal_at l place) ≤ end) → (o : Occurs l text place end)
-    → Begins (front_of (literal_at l place) (length (literal_at l place))) (read_of l.folding text from count)
-begins_of_ends l text from count place end here front o =
+    → Begins (prefix_of (literal_at l place) (length (literal_at l place))) (read_of l.folding text from count)
+begins_of_ends l text from count place end here prefix o =
     let literal = literal_at l place in
     let len = length literal in
     let is : literal ≡ o.literal = get_or_from_slice_get l.texts place o.literal [] o.stands in
     let lens : len ≡ length o.literal = ap length is in
-    let fits : len ≤ count = elim front [
+    let fits : len ≤ count = elim prefix [
       | inl none ↦ omega (arith, none, here, o.begins, lens)
       | inr far ↦ omega (arith, far, here)
     ] in
@@ -221,16 +221,16 @@ output_there t l text longest end to right nonempty fits small inside is =
       members = λ place. (
         λ found.
             let w = (report place).0 (subst (λ s. Contains (output_at t s) place) (sym same) found) in
-            ends_of_begins l text is.from is.count place end is.here inside w.0 (begins_trans (front_of (literal_at l place) (length (literal_at l place))) leads.0 (read_of l.folding text is.from is.count) w.1 leads.2.ends),
+            ends_of_begins l text is.from is.count place end is.here inside w.0 (begins_trans (prefix_of (literal_at l place) (length (literal_at l place))) leads.0 (read_of l.folding text is.from is.count) w.1 leads.2.ends),
         λ o.
             let within = slice_get_within l.texts place o.literal o.stands in
-            let front : (is.from ≡ 0) ⊎ (is.from + length (literal_at l place) ≤ end) = elim is.front [
+            let prefix : (is.from ≡ 0) ⊎ (is.from + length (literal_at l place) ≤ end) = elim is.prefix [
               | inl none ↦ inl none
               | inr far ↦ inr (omega (arith, far, fits place within))
             ] in
             subst (λ s. Contains (output_at t s) place) same ((report place).1 within
-            (leads.2.longest (front_of (literal_at l place) (length (literal_at l place))) (literal_path t l right place within (length (literal_at l place)) (omega arith))
-            (begins_of_ends l text is.from is.count place end is.here front o))),
+            (leads.2.longest (prefix_of (literal_at l place) (length (literal_at l place))) (literal_path t l right place within (length (literal_at l place)) (omega arith))
+            (begins_of_ends l text is.from is.count place end is.here prefix o))),
       );
     }
 

@@ -2,7 +2,7 @@
 use Rattle.std.proofs.Common.{◌≡◌, ℕ, suc, ◌+◌, ◌*◌, ◌<◌, ◌≤◌, ◌⊎◌, List, inl, inr, length, get_or, set, slice_index, sym, ap, ◌∙◌, subst, arith}
 use Rattle.std.proofs.lemmas.Bool.{cases_eq, cases_lt}
 use Rattle.std.proofs.lemmas.List.{get_or-set_other, get_or-set_same}
-use Rattle.text_automaton.specs.Fronts.{IsRead, state_after}
+use Rattle.text_automaton.specs.Prefixes.{IsRead, state_after}
 use Rattle.text_automaton.specs.Tables.{count_of, step}
 use Rattle.text_automaton.specs.declared.tables.Tables.{Tables}
 
@@ -13,7 +13,7 @@ read_on t text longest place at next state to old here there led known = record 
   from = old.from;
   count = suc old.count;
   here = omega (arith, old.here, there);
-  front = elim old.front [
+  prefix = elim old.prefix [
     | inl none ↦ inl none
     | inr far ↦ inr (omega (arith, far, there))
   ];

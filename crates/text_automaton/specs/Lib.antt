@@ -1,5 +1,5 @@
 pub mod Automata
-pub mod Fronts
+pub mod Prefixes
 pub mod Stages
 pub mod Tables
 pub mod AutomatonWalks

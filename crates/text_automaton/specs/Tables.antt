@@ -75,9 +75,9 @@ state_of t [] = 0
 state_of t (byte ∷ before) = step t (state_of t before) (slice_index t.classes byte)
 
 -- the first `count` bytes of a text, last byte first
-abbrev pub front_of : List ℕ → ℕ → List ℕ
-front_of text zero = []
-front_of text (suc count) = slice_index text count ∷ front_of text count
+abbrev pub prefix_of : List ℕ → ℕ → List ℕ
+prefix_of text zero = []
+prefix_of text (suc count) = slice_index text count ∷ prefix_of text count
 
 -- a byte is the one of its class
 pub record IsKnown (t : Tables) (byte : ℕ) : Type 0 where
@@ -90,8 +90,8 @@ IsLonger t before byte = IsKnown t byte × IsChild t (state_of t before) (slice_
 
 -- a literal's prefixes lead each to the next, and the longest is its state
 pub record IsSpelled (t : Tables) (l : Literals) (place : ℕ) : Type 0 where
-  pub fronts : (at : ℕ) → at < length (literal_at l place) → IsLonger t (front_of (literal_at l place) at) (slice_index (literal_at l place) at)
-  pub end : state_of t (front_of (literal_at l place) (length (literal_at l place))) ≡ slice_index t.ends.items place
+  pub prefixes : (at : ℕ) → at < length (literal_at l place) → IsLonger t (prefix_of (literal_at l place) at) (slice_index (literal_at l place) at)
+  pub end : state_of t (prefix_of (literal_at l place) (length (literal_at l place))) ≡ slice_index t.ends.items place
   pub own : slice_index t.owns.items (slice_index t.ends.items place) ≡ place
 
 -- all of it

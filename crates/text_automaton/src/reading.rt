@@ -1,6 +1,6 @@
 //! Reading a text: the state at each position.
 ghost use Rattle.std.specs.Prelude.{◌≡◌, ℕ, ◌+◌, ◌-◌, ◌*◌, ◌<◌, ◌≤◌, length, min, slice_index};
-ghost use Rattle.text_automaton.specs.Fronts.{IsRead};
+ghost use Rattle.text_automaton.specs.Prefixes.{IsRead};
 ghost use Rattle.text_automaton.specs.Tables.{AreSized, HaveClasses, step};
 
 use crate::tables::Tables;

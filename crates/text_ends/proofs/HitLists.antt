@@ -14,7 +14,7 @@ use Rattle.lit_base.specs.Occurrences.{HasEnd}
 use Rattle.lit_base.specs.NextEnds.{NoEndAfter}
 use Rattle.text_ends.specs.HitsAt.{AreHitsAt}
 use Rattle.text_ends.specs.HitsAfter.{AreHitsAfter}
-use Rattle.text_ends.proofs.Occurring.{occurs_in_front, occurs_of_front}
+use Rattle.text_ends.proofs.Occurring.{occurs_in_prefix, occurs_of_prefix}
 
 -- two lists in strict order are one where each element of the first is below each of the second
 sorted_joined : {K : Type 0} (R : K → K → Ordering) (xs ys : List K) → IsStrictlySortedBy R xs → IsStrictlySortedBy R ys → ((x y : K) → Contains xs x → Contains ys y → R x y ≡ Less) → IsStrictlySortedBy R (xs ++ ys)
@@ -40,12 +40,12 @@ at_end : (l : Literals) (text : List ℕ) (place e f : ℕ) → e ≡ f → Occu
 at_end l text place e f same o = subst (λ x. Occurs l text place x) same o
 
 -- an occurrence in a prefix is an occurrence in the text; an occurrence in the text that ends in the prefix is one in the prefix
-from_front : (l : Literals) (text : List ℕ) (m place e : ℕ) → Occurs l (take m text) place e → Occurs l text place e
-from_front l text m place e o = subst (λ t. Occurs l t place e) (take-append-drop m text) (occurs_of_front l (take m text) (drop m text) place e o)
+from_prefix : (l : Literals) (text : List ℕ) (m place e : ℕ) → Occurs l (take m text) place e → Occurs l text place e
+from_prefix l text m place e o = subst (λ t. Occurs l t place e) (take-append-drop m text) (occurs_of_prefix l (take m text) (drop m text) place e o)
 
-to_front : (l : Literals) (text : List ℕ) (m place e : ℕ) → e ≤ length (take m text) → Occurs l text place e → Occurs l (take m text) place e
-to_front l text m place e within o =
-    occurs_in_front l (take m text) (drop m text) place e within (subst (λ t. Occurs l t place e) (sym (take-append-drop m text)) o)
+to_prefix : (l : Literals) (text : List ℕ) (m place e : ℕ) → e ≤ length (take m text) → Occurs l text place e → Occurs l (take m text) place e
+to_prefix l text m place e within o =
+    occurs_in_prefix l (take m text) (drop m text) place e within (subst (λ t. Occurs l t place e) (sym (take-append-drop m text)) o)
 
 -- the hits up to a position of a text and those after it are all hits
 pub hits_joined : (l : Literals) (text : List ℕ) (from m at : ℕ) (found rest : List (ℕ × ℕ)) → from ≤ m → m ≤ length text → AreHitsAfter l (take m text) from at found → AreHitsAfter l text m (at + (m - from)) rest → AreHitsAfter l text from at (found ++ rest)
@@ -57,7 +57,7 @@ hits_joined l text from m at found rest starts within early late = record {
       earlier_below h i (omega (arith, before.0, before.1.ends, after.0, length-take m text)));
   members = λ place end. (
     λ inside. elim (Contains-append_cases found rest (place, end) inside) [
-      | inl here ↦ let w = (early.members place end).0 here in (w.0, from_front l text m place (from + (end - at)) w.1)
+      | inl here ↦ let w = (early.members place end).0 here in (w.0, from_prefix l text m place (from + (end - at)) w.1)
       | inr here ↦ let w = (late.members place end).0 here in
           (omega (arith, w.0), at_end l text place (m + (end - (at + (m - from)))) (from + (end - at)) (omega (arith, w.0)) w.1)
     ],
@@ -65,7 +65,7 @@ hits_joined l text from m at found rest starts within early late = record {
       | inl later ↦ Contains-append_right found rest (place, end)
           ((late.members place end).1 (omega (arith, later, w.0), at_end l text place (from + (end - at)) (m + (end - (at + (m - from)))) (omega (arith, later, w.0)) w.1))
       | inr sooner ↦ Contains-append_left found rest (place, end)
-          ((early.members place end).1 (w.0, to_front l text m place (from + (end - at)) (omega (arith, sooner, length-take m text)) w.1))
+          ((early.members place end).1 (w.0, to_prefix l text m place (from + (end - at)) (omega (arith, sooner, length-take m text)) w.1))
     ],
   );
 }
@@ -83,8 +83,8 @@ pub none_past : (l : Literals) (text : List ℕ) (from : ℕ) → length text �
 none_past l text from past = λ end after here. omega (arith, after, here.1.ends)
 
 -- where nothing ends in a text after a position, nothing ends in a prefix of it after a later position
-pub none_in_front : (l : Literals) (text : List ℕ) (from m stop : ℕ) → from ≤ m → NoEndAfter l text from → NoEndAfter l (take stop text) m
-none_in_front l text from m stop further none = λ end after here. none end (omega (arith, after, further)) (here.0, from_front l text stop here.0 end here.1)
+pub none_in_prefix : (l : Literals) (text : List ℕ) (from m stop : ℕ) → from ≤ m → NoEndAfter l text from → NoEndAfter l (take stop text) m
+none_in_prefix l text from m stop further none = λ end after here. none end (omega (arith, after, further)) (here.0, from_prefix l text stop here.0 end here.1)
 
 -- the hits at a position of the text, where nothing ends between another position and it
 pub hits_here : (l : Literals) (text : List ℕ) (m end at : ℕ) (here : List (ℕ × ℕ)) → m < end → end ≤ length text → ((other : ℕ) → m < other → other < end → ¬ HasEnd l text other) → AreHitsAt l text end (at + (end - m)) here → AreHitsAfter l (take end text) m at here
@@ -92,8 +92,8 @@ hits_here l text m end at here after within first hits = record {
   rising = hits.rising;
   members = λ place position. (
     λ inside. let w = (hits.members place position).0 inside in
-        (omega (arith, w.0, after), to_front l text end place (m + (position - at)) (omega (arith, w.0, after, length-take end text)) (at_end l text place end (m + (position - at)) (omega (arith, w.0, after)) w.1)),
-    λ w. let o : Occurs l text place (m + (position - at)) = from_front l text end place (m + (position - at)) w.1 in
+        (omega (arith, w.0, after), to_prefix l text end place (m + (position - at)) (omega (arith, w.0, after, length-take end text)) (at_end l text place end (m + (position - at)) (omega (arith, w.0, after)) w.1)),
+    λ w. let o : Occurs l text place (m + (position - at)) = from_prefix l text end place (m + (position - at)) w.1 in
         let most : m + (position - at) ≤ end = omega (arith, w.1.ends, length-take end text) in
         elim (cases_lt (m + (position - at)) end) [
           | inl sooner ↦ absurd (first (m + (position - at)) (omega (arith, w.0)) sooner (place, o))
@@ -106,9 +106,9 @@ hits_here l text m end at here after within first hits = record {
 pub hits_further : (l : Literals) (text : List ℕ) (from m end at : ℕ) (found here : List (ℕ × ℕ)) → from ≤ m → m < end → end ≤ length text → ((other : ℕ) → m < other → other < end → ¬ HasEnd l text other) → AreHitsAfter l (take m text) from at found → AreHitsAt l text end (at + (end - from)) here → AreHitsAfter l (take end text) from at (found ++ here)
 hits_further l text from m end at found here starts after within first early hits =
     let same : at + (end - from) ≡ at + (m - from) + (end - m) = omega (arith, starts, after) in
-    let front : take m (take end text) ≡ take m text = take-take m end text (omega (arith, after)) in
+    let prefix : take m (take end text) ≡ take m text = take-take m end text (omega (arith, after)) in
     hits_joined l (take end text) from m at found here starts (omega (arith, length-take end text, after, within))
-    (subst (λ t. AreHitsAfter l t from at found) (sym front) early)
+    (subst (λ t. AreHitsAfter l t from at found) (sym prefix) early)
     (hits_here l text m end (at + (m - from)) here after within first (subst (λ x. AreHitsAt l text end x here) same hits))
 
 -- the hits up to a position after which nothing ends are all hits

@@ -41,8 +41,8 @@ occurs_in_rest l a b place e o fits = record {
 }
 
 -- an occurrence that ends within a prefix is one in the prefix
-pub occurs_in_front : (l : Literals) (a b : List ℕ) (place e : ℕ) → e ≤ length a → Occurs l (a ++ b) place e → Occurs l a place e
-occurs_in_front l a b place e within o = record {
+pub occurs_in_prefix : (l : Literals) (a b : List ℕ) (place e : ℕ) → e ≤ length a → Occurs l (a ++ b) place e → Occurs l a place e
+occurs_in_prefix l a b place e within o = record {
   literal = o.literal;
   stands = o.stands;
   begins = o.begins;
@@ -51,8 +51,8 @@ occurs_in_front l a b place e within o = record {
 }
 
 -- and the other way round
-pub occurs_of_front : (l : Literals) (a b : List ℕ) (place e : ℕ) → Occurs l a place e → Occurs l (a ++ b) place e
-occurs_of_front l a b place e o = record {
+pub occurs_of_prefix : (l : Literals) (a b : List ℕ) (place e : ℕ) → Occurs l a place e → Occurs l (a ++ b) place e
+occurs_of_prefix l a b place e o = record {
   literal = o.literal;
   stands = o.stands;
   begins = o.begins;

@@ -36,10 +36,10 @@ gained_joined l text from m at old middle new starts within early late = record 
 pub gained_further : (l : Literals) (text : List ℕ) (from m stop : ℕ) (old middle new : List (ℕ × ℕ)) → from ≤ m → m ≤ stop → stop ≤ length text
     → GainsHitsAfter l (take m text) from from old middle → GainsHitsAfter l (take stop text) m m middle new → GainsHitsAfter l (take stop text) from from old new
 gained_further l text from m stop old middle new starts further within early late =
-    let front : take m (take stop text) ≡ take m text = take-take m stop text further in
+    let prefix : take m (take stop text) ≡ take m text = take-take m stop text further in
     let position : m ≡ from + (m - from) = omega (arith, starts) in
     gained_joined l (take stop text) from m from old middle new starts (omega (arith, further, within, length-take stop text))
-    (subst (λ t. GainsHitsAfter l t from from old middle) (sym front) early)
+    (subst (λ t. GainsHitsAfter l t from from old middle) (sym prefix) early)
     (subst (λ x. GainsHitsAfter l (take stop text) m x middle new) position late)
 
 -- so too where the later search covers a span of the text
@@ -47,8 +47,8 @@ pub span_gained : (l : Literals) (text : List ℕ) (from m span most stop : ℕ)
     → GainsHitsAfter l (take m text) from from old middle → StopsAt l (take span text) m m most stop middle new → GainsHitsAfter l (take stop text) from from old new
 span_gained l text from m span most stop old middle new starts within early late =
     let inside : stop ≤ span = omega (arith, late.within, length-take span text) in
-    let front : take stop (take span text) ≡ take stop text = take-take stop span text inside in
-    gained_further l text from m stop old middle new starts late.after (omega (arith, inside, within)) early (subst (λ t. GainsHitsAfter l t m m middle new) front late.gained)
+    let prefix : take stop (take span text) ≡ take stop text = take-take stop span text inside in
+    gained_further l text from m stop old middle new starts late.after (omega (arith, inside, within)) early (subst (λ t. GainsHitsAfter l t m m middle new) prefix late.gained)
 
 -- from the end of a list on there are no hits
 pub none_late : (n : ℕ) (new : List (ℕ × ℕ)) (hit : ℕ × ℕ) → length new ≤ n → ¬ Contains (drop n new) hit

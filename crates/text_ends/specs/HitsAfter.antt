@@ -26,4 +26,4 @@ pub record StopsAt (l : Literals) (text : List ℕ) (from at most stop : ℕ) (o
 
 -- hits that continue the hits up to a position: both together are the hits of the text
 abbrev pub Continues : Literals → List ℕ → ℕ → List (ℕ × ℕ) → Type 0
-Continues l text from hits = (front : List (ℕ × ℕ)) → IsHits l (take from text) front → IsHits l text (front ++ hits)
+Continues l text from hits = (prefix : List (ℕ × ℕ)) → IsHits l (take from text) prefix → IsHits l text (prefix ++ hits)

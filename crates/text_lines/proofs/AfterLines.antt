@@ -17,48 +17,48 @@ use Rattle.text_lines.proofs.Newlines.{open_rest-closed, open_rest-nil}
 
 -- each text stands after nothing
 pub after-nothing : (text : List ℕ) → IsAfterLines text text
-after-nothing text = record { front = []; cut = refl; closed = open_rest-nil }
+after-nothing text = record { prefix = []; cut = refl; closed = open_rest-nil }
 
 -- and what stands after a line of it stands after lines too
 pub after-hit : (l : Literals) (whole text missed line rest : List ℕ) → IsAfterLines whole text → IsFirstHitLine l text missed line rest → IsAfterLines whole rest
 after-hit l whole text missed line rest after hit =
-    let f = after.front in
+    let f = after.prefix in
     let cut : whole ≡ ((f ++ (missed ++ line)) ++ 10 ∷ []) ++ rest =
     after.cut ∙ ap (λ t. f ++ t) (hit.whole ∙ sym (append_assoc missed line (10 ∷ rest))) ∙ sym (append_assoc f (missed ++ line) (10 ∷ rest))
     ∙ sym (append_assoc (f ++ (missed ++ line)) (10 ∷ []) rest) in
-    record { front = (f ++ (missed ++ line)) ++ 10 ∷ []; cut = cut; closed = open_rest-closed (f ++ (missed ++ line)) }
+    record { prefix = (f ++ (missed ++ line)) ++ 10 ∷ []; cut = cut; closed = open_rest-closed (f ++ (missed ++ line)) }
 
 -- what stands after a line with a literal is a text of ended lines, as the whole is
 pub hit-closed : {l : Literals} {rest missed line after : List ℕ} → IsFirstHitLine l rest missed line after → open_rest rest ≡ [] → open_rest after ≡ []
 hit-closed {l} {rest} {missed} {line} {after} hit closed =
     sym (ap open_rest hit.whole ∙ open_rest-append missed (line ++ 10 ∷ after) ∙ ap (λ r. open_rest (r ++ (line ++ 10 ∷ after))) hit.closed ∙ open_rest-newline line after hit.one) ∙ closed
 
--- the whole is longer than the text by the front
-pub after-len : (whole text : List ℕ) (after : IsAfterLines whole text) → length whole ≡ length after.front + length text
-after-len whole text after = ap length after.cut ∙ length-append after.front text
+-- the whole is longer than the text by the prefix
+pub after-len : (whole text : List ℕ) (after : IsAfterLines whole text) → length whole ≡ length after.prefix + length text
+after-len whole text after = ap length after.cut ∙ length-append after.prefix text
 
-module _ (l : Literals) (apart : All IsOnePiece l.texts) (front text : List ℕ) (closed : open_rest front ≡ []) where
-  -- a literal that ends in the text ends in the whole, later by the front's length
-  ends_in_whole : (end : ℕ) → HasEnd l text end → HasEnd l (front ++ text) (length front + end)
+module _ (l : Literals) (apart : All IsOnePiece l.texts) (prefix text : List ℕ) (closed : open_rest prefix ≡ []) where
+  -- a literal that ends in the text ends in the whole, later by the prefix's length
+  ends_in_whole : (end : ℕ) → HasEnd l text end → HasEnd l (prefix ++ text) (length prefix + end)
   ends_in_whole end h =
       let f = folded l.folding in
       let o = h.1 in
       let t = o.literal in
       let p = occurs-parts l text h.0 end o in
-      let parts : map f (front ++ text) ≡ (map f front ++ p.before) ++ (t ++ p.after) =
-      map-append f front text ∙ ap (λ u. map f front ++ u) p.whole ∙ sym (append_assoc (map f front) p.before (t ++ p.after)) in
-      let at : length (map f front ++ p.before) + length t ≡ length front + end = omega (arith, length-append (map f front) p.before, length-map front f, p.at) in
-      (h.0, subst (Occurs l (front ++ text) h.0) at (slice-occurs l (front ++ text) h.0 t (map f front ++ p.before) p.after o.stands parts))
+      let parts : map f (prefix ++ text) ≡ (map f prefix ++ p.before) ++ (t ++ p.after) =
+      map-append f prefix text ∙ ap (λ u. map f prefix ++ u) p.whole ∙ sym (append_assoc (map f prefix) p.before (t ++ p.after)) in
+      let at : length (map f prefix ++ p.before) + length t ≡ length prefix + end = omega (arith, length-append (map f prefix) p.before, length-map prefix f, p.at) in
+      (h.0, subst (Occurs l (prefix ++ text) h.0) at (slice-occurs l (prefix ++ text) h.0 t (map f prefix ++ p.before) p.after o.stands parts))
 
-  -- what ends after the front begins after it, since a newline stands between
-  begins_after : (a t b : List ℕ) (end : ℕ) → IsOnePiece t → 0 < end → length a + length t ≡ length front + end → folded_text l.folding (front ++ text) ≡ a ++ (t ++ b) → length front ≤ length a
-  begins_after a t b end single some at parts = elim (ends_in_newline front closed) [
-    | inl none ↦ let zero : length front ≡ 0 = ap length none in omega (arith, zero)
+  -- what ends after the prefix begins after it, since a newline stands between
+  begins_after : (a t b : List ℕ) (end : ℕ) → IsOnePiece t → 0 < end → length a + length t ≡ length prefix + end → folded_text l.folding (prefix ++ text) ≡ a ++ (t ++ b) → length prefix ≤ length a
+  begins_after a t b end single some at parts = elim (ends_in_newline prefix closed) [
+    | inl none ↦ let zero : length prefix ≡ 0 = ap length none in omega (arith, zero)
     | inr w ↦
         let f = folded l.folding in
-        let cut : front ++ text ≡ w.0 ++ 10 ∷ text = ap (λ u. u ++ text) w.1 ∙ append_assoc w.0 (10 ∷ []) text in
+        let cut : prefix ++ text ≡ w.0 ++ 10 ∷ text = ap (λ u. u ++ text) w.1 ∙ append_assoc w.0 (10 ∷ []) text in
         let same : map f w.0 ++ 10 ∷ map f text ≡ a ++ (t ++ b) = sym (map-newline l.folding w.0 text) ∙ sym (ap (map f) cut) ∙ parts in
-        let long : length front ≡ length w.0 + 1 = ap length w.1 ∙ length-append w.0 (10 ∷ []) in
+        let long : length prefix ≡ length w.0 + 1 = ap length w.1 ∙ length-append w.0 (10 ∷ []) in
         let short : length (map f w.0) ≡ length w.0 = length-map w.0 f in
         elim (crossing (map f w.0) (map f text) a t b single same) [
           | inl before ↦ absurd (omega (arith, before, long, short, at, some))
@@ -66,52 +66,52 @@ module _ (l : Literals) (apart : All IsOnePiece l.texts) (front text : List ℕ)
         ]
   ]
 
-  -- so a literal that ends in the whole after the front ends in the text
-  ends_in_text : (end : ℕ) → 0 < end → HasEnd l (front ++ text) (length front + end) → HasEnd l text end
+  -- so a literal that ends in the whole after the prefix ends in the text
+  ends_in_text : (end : ℕ) → 0 < end → HasEnd l (prefix ++ text) (length prefix + end) → HasEnd l text end
   ends_in_text end some h =
       let f = folded l.folding in
       let o = h.1 in
       let t = o.literal in
-      let p = occurs-parts l (front ++ text) h.0 (length front + end) o in
+      let p = occurs-parts l (prefix ++ text) h.0 (length prefix + end) o in
       let inside = slice_get_within l.texts h.0 t o.stands in
       let single : IsOnePiece t = subst IsOnePiece (get_or_from_slice_get l.texts h.0 t t o.stands) (apart h.0 t inside) in
-      let low : length front ≤ length p.before = begins_after p.before t p.after end single some p.at p.whole in
-      let size : length (map f front) ≡ length front = length-map front f in
-      let parts : map f text ≡ drop (length (map f front)) p.before ++ (t ++ p.after) =
-      sym (drop-append_seam (map f front) (map f text)) ∙ ap (drop (length (map f front))) (sym (map-append f front text) ∙ p.whole)
-      ∙ drop-append-le (length (map f front)) p.before (t ++ p.after) (omega (arith, low, size)) in
-      let at : length (drop (length (map f front)) p.before) + length t ≡ end = omega (arith, length-drop (length (map f front)) p.before, size, p.at, low) in
-      (h.0, subst (Occurs l text h.0) at (slice-occurs l text h.0 t (drop (length (map f front)) p.before) p.after o.stands parts))
+      let low : length prefix ≤ length p.before = begins_after p.before t p.after end single some p.at p.whole in
+      let size : length (map f prefix) ≡ length prefix = length-map prefix f in
+      let parts : map f text ≡ drop (length (map f prefix)) p.before ++ (t ++ p.after) =
+      sym (drop-append_seam (map f prefix) (map f text)) ∙ ap (drop (length (map f prefix))) (sym (map-append f prefix text) ∙ p.whole)
+      ∙ drop-append-le (length (map f prefix)) p.before (t ++ p.after) (omega (arith, low, size)) in
+      let at : length (drop (length (map f prefix)) p.before) + length t ≡ end = omega (arith, length-drop (length (map f prefix)) p.before, size, p.at, low) in
+      (h.0, subst (Occurs l text h.0) at (slice-occurs l text h.0 t (drop (length (map f prefix)) p.before) p.after o.stands parts))
 
-  -- the next end of the whole after the front is the first of the text
-  next_in_text : (end : ℕ) → IsNextEnd l (front ++ text) (length front) end → IsNextEnd l text 0 (end - length front)
+  -- the next end of the whole after the prefix is the first of the text
+  next_in_text : (end : ℕ) → IsNextEnd l (prefix ++ text) (length prefix) end → IsNextEnd l text 0 (end - length prefix)
   next_in_text end next =
-      let there : end ≡ length front + (end - length front) = omega (arith, next.after) in
+      let there : end ≡ length prefix + (end - length prefix) = omega (arith, next.after) in
       record {
         after = omega (arith, next.after);
-        within = omega (arith, next.within, length-append front text);
-        here = ends_in_text (end - length front) (omega (arith, next.after)) (subst (HasEnd l (front ++ text)) there next.here);
-        first = λ other some low h. next.first (length front + other) (omega (arith, some)) (omega (arith, low)) (ends_in_whole other h);
+        within = omega (arith, next.within, length-append prefix text);
+        here = ends_in_text (end - length prefix) (omega (arith, next.after)) (subst (HasEnd l (prefix ++ text)) there next.here);
+        first = λ other some low h. next.first (length prefix + other) (omega (arith, some)) (omega (arith, low)) (ends_in_whole other h);
       }
 
-  none_in_text : NoEndAfter l (front ++ text) (length front) → NoEndAfter l text 0
-  none_in_text none = λ end some h. none (length front + end) (omega (arith, some)) (ends_in_whole end h)
+  none_in_text : NoEndAfter l (prefix ++ text) (length prefix) → NoEndAfter l text 0
+  none_in_text none = λ end some h. none (length prefix + end) (omega (arith, some)) (ends_in_whole end h)
 
 -- the same of any whole in which the text stands after lines
 pub rest-next : (l : Literals) → All IsOnePiece l.texts → (whole text : List ℕ) (from end : ℕ) → IsAfterLines whole text → from + length text ≡ length whole → IsNextEnd l whole from end → IsNextEnd l text 0 (end - from)
 rest-next l apart whole text from end after place next =
-    let at : from ≡ length after.front = omega (arith, place, after-len whole text after) in
-    let moved : IsNextEnd l (after.front ++ text) (length after.front) end =
-    subst (λ n. IsNextEnd l (after.front ++ text) n end) at (subst (λ w. IsNextEnd l w from end) after.cut next) in
-    subst (λ n. IsNextEnd l text 0 (end - n)) (sym at) (next_in_text l apart after.front text after.closed end moved)
+    let at : from ≡ length after.prefix = omega (arith, place, after-len whole text after) in
+    let moved : IsNextEnd l (after.prefix ++ text) (length after.prefix) end =
+    subst (λ n. IsNextEnd l (after.prefix ++ text) n end) at (subst (λ w. IsNextEnd l w from end) after.cut next) in
+    subst (λ n. IsNextEnd l text 0 (end - n)) (sym at) (next_in_text l apart after.prefix text after.closed end moved)
 
 pub rest-none : (l : Literals) → All IsOnePiece l.texts → (whole text : List ℕ) (from : ℕ) → IsAfterLines whole text → from + length text ≡ length whole → NoEndAfter l whole from → NoEndAfter l text 0
 rest-none l apart whole text from after place none =
-    let at : from ≡ length after.front = omega (arith, place, after-len whole text after) in
-    none_in_text l apart after.front text after.closed (subst (λ w. NoEndAfter l w (length after.front)) after.cut (subst (NoEndAfter l whole) at none))
+    let at : from ≡ length after.prefix = omega (arith, place, after-len whole text after) in
+    none_in_text l apart after.prefix text after.closed (subst (λ w. NoEndAfter l w (length after.prefix)) after.cut (subst (NoEndAfter l whole) at none))
 
 -- and so of any literal that ends in the whole after them
 pub rest-end : (l : Literals) → All IsOnePiece l.texts → (whole text : List ℕ) (from end : ℕ) → IsAfterLines whole text → from + length text ≡ length whole → 0 < end → HasEnd l whole (from + end) → HasEnd l text end
 rest-end l apart whole text from end after place some here =
-    let at : from ≡ length after.front = omega (arith, place, after-len whole text after) in
-    ends_in_text l apart after.front text after.closed end some (subst (λ n. HasEnd l (after.front ++ text) (n + end)) at (subst (λ w. HasEnd l w (from + end)) after.cut here))
+    let at : from ≡ length after.prefix = omega (arith, place, after-len whole text after) in
+    ends_in_text l apart after.prefix text after.closed end some (subst (λ n. HasEnd l (after.prefix ++ text) (n + end)) at (subst (λ w. HasEnd l w (from + end)) after.cut here))

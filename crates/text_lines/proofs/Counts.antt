@@ -17,9 +17,9 @@ count_by-parts p text at = sum_by-take-drop (λ b. cond (p b) 1 0) text at
 -- some bytes more
 pub count_by-more : (p : ℕ → Bool) (text : List ℕ) (at n : ℕ) → count_by p (take at text) + count_by p (take ((at + n) - at) (drop at text)) ≡ count_by p (take (at + n) text)
 count_by-more p text at n =
-    let front : take at (take (at + n) text) ≡ take at text = take-take at (at + n) text (omega arith) in
+    let prefix : take at (take (at + n) text) ≡ take at text = take-take at (at + n) text (omega arith) in
     let size : (at + n) - at ≡ n = omega arith in
-    ap (λ t. count_by p t + count_by p (take ((at + n) - at) (drop at text))) (sym front)
+    ap (λ t. count_by p t + count_by p (take ((at + n) - at) (drop at text))) (sym prefix)
     ∙ ap (λ k. count_by p (take at (take (at + n) text)) + count_by p (take k (drop at text))) size
     ∙ ap (λ t. count_by p (take at (take (at + n) text)) + count_by p t) (sym (drop-take at n text))
     ∙ count_by-parts p (take (at + n) text) at

@@ -21,18 +21,18 @@ crossing (y ∷ u) v (x ∷ a) t b one e =
     let rest : u ++ 10 ∷ v ≡ a ++ (t ++ b) = (cc) in
     elim (crossing u v a t b one rest) [ inl before ↦ inl (omega (arith, before)) | inr after ↦ inr (omega (arith, after)) ]
 
--- the front of a text
-front_slice : (ys zs t b : List ℕ) → ys ++ zs ≡ t ++ b → length t ≤ length ys → (rest : List ℕ) × (ys ≡ t ++ rest)
-front_slice ys zs [] b e le = (ys, refl)
-front_slice [] zs (c ∷ t) b e le = absurd (omega (arith, le))
-front_slice (y ∷ ys) zs (c ∷ t) b e le =
-    let w = front_slice ys zs t b (cc) (omega (arith, le)) in
+-- the prefix of a text
+prefix_slice : (ys zs t b : List ℕ) → ys ++ zs ≡ t ++ b → length t ≤ length ys → (rest : List ℕ) × (ys ≡ t ++ rest)
+prefix_slice ys zs [] b e le = (ys, refl)
+prefix_slice [] zs (c ∷ t) b e le = absurd (omega (arith, le))
+prefix_slice (y ∷ ys) zs (c ∷ t) b e le =
+    let w = prefix_slice ys zs t b (cc) (omega (arith, le)) in
     let same : y ≡ c = (cc) in
     (w.0, ap (λ l. y ∷ l) w.1 ∙ ap (λ x. x ∷ (t ++ w.0)) same)
 
--- a slice that lies in a front is a slice of it
+-- a slice that lies in a prefix is a slice of it
 inner_slice : (ys zs a t b : List ℕ) → ys ++ zs ≡ a ++ (t ++ b) → length a + length t ≤ length ys → HasSubslice ys t
-inner_slice ys zs [] t b e le = let w = front_slice ys zs t b e (omega (arith, le)) in ([], w.0, w.1)
+inner_slice ys zs [] t b e le = let w = prefix_slice ys zs t b e (omega (arith, le)) in ([], w.0, w.1)
 inner_slice [] zs (x ∷ a) t b e le = absurd (omega (arith, le))
 inner_slice (y ∷ ys) zs (x ∷ a) t b e le = let w = inner_slice ys zs a t b (cc) (omega (arith, le)) in (y ∷ w.0, w.1, ap (λ l. y ∷ l) w.2)
 
@@ -60,7 +60,7 @@ closed_one : (b : ℕ) (here : Bool) → eqb b 10 ≡ here → last_piece (cond 
 closed_one b true e closed = eqb-true b 10 e
 closed_one b false e closed = absurd (cc)
 
-pub ends_in_newline : (text : List ℕ) → open_rest text ≡ [] → (text ≡ []) ⊎ ((front : List ℕ) × (text ≡ front ++ 10 ∷ []))
+pub ends_in_newline : (text : List ℕ) → open_rest text ≡ [] → (text ≡ []) ⊎ ((prefix : List ℕ) × (text ≡ prefix ++ 10 ∷ []))
 unfolding open_rest
 ends_in_newline [] closed = inl refl
 ends_in_newline (b ∷ []) closed = inr ([], ap (λ x. x ∷ []) (closed_one b (eqb b 10) refl closed))
@@ -80,7 +80,7 @@ record Sliced (text : List ℕ) (ps : List (List ℕ)) : Type 0 where
   others : List (List ℕ)
   rest : List ℕ
   parts : ps ≡ first ∷ others
-  front : text ≡ first ++ rest
+  prefix : text ≡ first ++ rest
   each : All (HasSubslice text) others
 
 sliced_more : (b : ℕ) (bs : List ℕ) (ps : List (List ℕ)) (here : Bool) → Sliced bs ps → Sliced (b ∷ bs) (cond here ([] ∷ ps) (onto_first b ps))
@@ -89,8 +89,8 @@ sliced_more b bs ps true s = record {
   others = ps;
   rest = b ∷ bs;
   parts = refl;
-  front = refl;
-  each = subst (All (HasSubslice (b ∷ bs))) (sym s.parts) (All-cons (HasSubslice (b ∷ bs)) s.first s.others (b ∷ [], s.rest, ap (λ l. b ∷ l) s.front)
+  prefix = refl;
+  each = subst (All (HasSubslice (b ∷ bs))) (sym s.parts) (All-cons (HasSubslice (b ∷ bs)) s.first s.others (b ∷ [], s.rest, ap (λ l. b ∷ l) s.prefix)
       (All-weaker (HasSubslice bs) (HasSubslice (b ∷ bs)) (further b bs) s.others s.each));
 }
 sliced_more b bs ps false s = record {
@@ -98,12 +98,12 @@ sliced_more b bs ps false s = record {
   others = s.others;
   rest = s.rest;
   parts = ap (onto_first b) s.parts;
-  front = ap (λ l. b ∷ l) s.front;
+  prefix = ap (λ l. b ∷ l) s.prefix;
   each = All-weaker (HasSubslice bs) (HasSubslice (b ∷ bs)) (further b bs) s.others s.each;
 }
 
 pieces-sliced : (text : List ℕ) → Sliced text (pieces text)
-pieces-sliced [] = record { first = []; others = []; rest = []; parts = refl; front = refl; each = All-nil (HasSubslice []) }
+pieces-sliced [] = record { first = []; others = []; rest = []; parts = refl; prefix = refl; each = All-nil (HasSubslice []) }
 pieces-sliced (b ∷ bs) = sliced_more b bs (pieces bs) (eqb b 10) (pieces-sliced bs)
 
 -- each ended line is a slice of the text
@@ -111,4 +111,4 @@ pub ended_lines-slices : (text : List ℕ) → All (HasSubslice text) (ended_lin
 unfolding ended_lines
 ended_lines-slices text =
     let s = pieces-sliced text in
-    All-without_last (HasSubslice text) (pieces text) (subst (All (HasSubslice text)) (sym s.parts) (All-cons (HasSubslice text) s.first s.others ([], s.rest, s.front) s.each))
+    All-without_last (HasSubslice text) (pieces text) (subst (All (HasSubslice text)) (sym s.parts) (All-cons (HasSubslice text) s.first s.others ([], s.rest, s.prefix) s.each))

@@ -26,19 +26,19 @@ folded-10 No = refl
 folded-10 Ascii = refl
 
 -- a folded text round a newline
-pub map-newline : (fold : Fold) (front rest : List ℕ) → folded_text fold (front ++ 10 ∷ rest) ≡ folded_text fold front ++ 10 ∷ folded_text fold rest
-map-newline fold front rest = map-append (folded fold) front (10 ∷ rest) ∙ ap (λ b. folded_text fold front ++ b ∷ folded_text fold rest) (folded-10 fold)
+pub map-newline : (fold : Fold) (prefix rest : List ℕ) → folded_text fold (prefix ++ 10 ∷ rest) ≡ folded_text fold prefix ++ 10 ∷ folded_text fold rest
+map-newline fold prefix rest = map-append (folded fold) prefix (10 ∷ rest) ∙ ap (λ b. folded_text fold prefix ++ b ∷ folded_text fold rest) (folded-10 fold)
 
 -- a text before the end of its first literal
-split_front : (text front tail missed head : List ℕ) (end : ℕ) → front ≡ take (end - 1) text → tail ≡ drop (end - 1) text → IsLastCut front missed head → text ≡ missed ++ (head ++ tail)
-split_front text front tail missed head end is_front is_tail cut =
-    sym (take-append-drop (end - 1) text) ∙ ap (λ u. u ++ drop (end - 1) text) (sym is_front ∙ cut.whole) ∙ ap (λ u. (missed ++ head) ++ u) (sym is_tail) ∙ append_assoc missed head tail
+split_prefix : (text prefix tail missed head : List ℕ) (end : ℕ) → prefix ≡ take (end - 1) text → tail ≡ drop (end - 1) text → IsLastCut prefix missed head → text ≡ missed ++ (head ++ tail)
+split_prefix text prefix tail missed head end is_prefix is_tail cut =
+    sym (take-append-drop (end - 1) text) ∙ ap (λ u. u ++ drop (end - 1) text) (sym is_prefix ∙ cut.whole) ∙ ap (λ u. (missed ++ head) ++ u) (sym is_tail) ∙ append_assoc missed head tail
 
 -- the two parts of the line, before the end of a literal and from there on, lie in the text
-pub line-room : (text front tail missed head ending after : List ℕ) (at : ℕ) → front ≡ take at text → tail ≡ drop at text → IsLastCut front missed head → IsFirstLine tail ending after
+pub line-room : (text prefix tail missed head ending after : List ℕ) (at : ℕ) → prefix ≡ take at text → tail ≡ drop at text → IsLastCut prefix missed head → IsFirstLine tail ending after
     → length missed + (length head + length ending) ≤ length text
-line-room text front tail missed head ending after at is_front is_tail cut last =
-    omega (arith, ap length is_front, length-take at text, ap length is_tail, length-drop at text, ap length cut.whole, length-append missed head, ap length last.whole, length-append ending (10 ∷ after))
+line-room text prefix tail missed head ending after at is_prefix is_tail cut last =
+    omega (arith, ap length is_prefix, length-take at text, ap length is_tail, length-drop at text, ap length cut.whole, length-append missed head, ap length last.whole, length-append ending (10 ∷ after))
 
 -- a line of two parts, where the newline stands after the second
 joined_line : (head tail ending after rest line : List ℕ) → IsOnePiece head → IsFirstLine tail ending after → rest ≡ head ++ tail → line ≡ take (length head + length ending) rest → IsFirstLine rest line after
@@ -73,24 +73,24 @@ module _ (l : Literals) (normal : IsNormal l) where
         (w.0, slice-occurs l text w.0 t (map f p ++ a) (b ++ map f q) (own l normal line w.0 t w.2 w.3) parts),
       )
 
-  -- where no literal ends in a front of a text, no line that ends in it holds one
-  pub misses-front : (text front rest : List ℕ) → text ≡ front ++ rest → ((end : ℕ) → 0 < end → end ≤ length front → ¬ HasEnd l text end) → AllMiss l front
-  misses-front text front rest whole none =
-      All-weaker (HasSubslice front) (λ line. matches l.folding false l.texts line ≡ false) (λ line s. sym (not_passed (matches l.folding false l.texts line) (λ e.
+  -- where no literal ends in a prefix of a text, no line that ends in it holds one
+  pub misses-prefix : (text prefix rest : List ℕ) → text ≡ prefix ++ rest → ((end : ℕ) → 0 < end → end ≤ length prefix → ¬ HasEnd l text end) → AllMiss l prefix
+  misses-prefix text prefix rest whole none =
+      All-weaker (HasSubslice prefix) (λ line. matches l.folding false l.texts line ≡ false) (λ line s. sym (not_passed (matches l.folding false l.texts line) (λ e.
       let parts : text ≡ s.0 ++ (line ++ (s.1 ++ rest)) = whole ∙ ap (λ u. u ++ rest) s.2 ∙ append_assoc s.0 (line ++ s.1) rest ∙ ap (λ u. s.0 ++ u) (append_assoc line s.1 rest) in
-      let size : length front ≡ length s.0 + (length line + length s.1) = ap length s.2 ∙ length-append s.0 (line ++ s.1) ∙ ap (λ n. length s.0 + n) (length-append line s.1) in
+      let size : length prefix ≡ length s.0 + (length line + length s.1) = ap length s.2 ∙ length-append s.0 (line ++ s.1) ∙ ap (λ n. length s.0 + n) (length-append line s.1) in
       let w = end-in text line s.0 (s.1 ++ rest) parts ((matching.matches l.folding false l.texts line).0 e) in
-      none w.0 w.1 (omega (arith, w.2, size)) w.3))) (ended_lines front) (ended_lines-slices front)
+      none w.0 w.1 (omega (arith, w.2, size)) w.3))) (ended_lines prefix) (ended_lines-slices prefix)
 
   -- where none ends in the text, no line of it holds one
   pub misses-all : (text : List ℕ) → NoEndAfter l text 0 → AllMiss l text
-  misses-all text none = misses-front text text [] (sym (append-nil text)) (λ end some within. none end some)
+  misses-all text none = misses-prefix text text [] (sym (append-nil text)) (λ end some within. none end some)
 
   module _ (apart : All IsOnePiece l.texts) (text missed line rest head tail : List ℕ) (end : ℕ) (whole : text ≡ missed ++ (line ++ 10 ∷ rest)) (closed : open_rest missed ≡ [])
-      (front : text ≡ missed ++ (head ++ tail)) (one : IsOnePiece head) (size : length missed + length head + 1 ≡ end) where
+      (prefix : text ≡ missed ++ (head ++ tail)) (one : IsOnePiece head) (size : length missed + length head + 1 ≡ end) where
     -- the newline of the line stands after the end of a literal
     line_end : length head ≤ length line
-    line_end = elim (crossing line rest [] head tail one (sym (append_cancel_left missed (head ++ tail) (line ++ 10 ∷ rest) (sym front ∙ whole)))) [
+    line_end = elim (crossing line rest [] head tail one (sym (append_cancel_left missed (head ++ tail) (line ++ 10 ∷ rest) (sym prefix ∙ whole)))) [
       | inl before ↦ omega (arith, before)
       | inr after ↦ absurd (omega (arith, after))
     ]
@@ -136,19 +136,19 @@ module _ (l : Literals) (normal : IsNormal l) where
 
   -- the line that holds the first end is the first that holds a literal: the bytes before that end, and up to the next
   -- newline
-  pub first-hit : (apart : All IsOnePiece l.texts) (text front tail missed head ending rest line after : List ℕ) (end : ℕ) → IsNextEnd l text 0 end → front ≡ take (end - 1) text → tail ≡ drop (end - 1) text
-      → IsLastCut front missed head → IsFirstLine tail ending after → rest ≡ drop (length missed) text → line ≡ take (length head + length ending) rest → IsFirstHitLine l text missed line after
-  first-hit apart text front tail missed head ending rest line after end n is_front is_tail cut last is_rest is_line =
-      let parts = split_front text front tail missed head end is_front is_tail cut in
+  pub first-hit : (apart : All IsOnePiece l.texts) (text prefix tail missed head ending rest line after : List ℕ) (end : ℕ) → IsNextEnd l text 0 end → prefix ≡ take (end - 1) text → tail ≡ drop (end - 1) text
+      → IsLastCut prefix missed head → IsFirstLine tail ending after → rest ≡ drop (length missed) text → line ≡ take (length head + length ending) rest → IsFirstHitLine l text missed line after
+  first-hit apart text prefix tail missed head ending rest line after end n is_prefix is_tail cut last is_rest is_line =
+      let parts = split_prefix text prefix tail missed head end is_prefix is_tail cut in
       let later : rest ≡ head ++ tail = is_rest ∙ ap (drop (length missed)) parts ∙ drop-append_seam missed (head ++ tail) in
       let first = joined_line head tail ending after rest line cut.one last later is_line in
       let whole : text ≡ missed ++ (line ++ 10 ∷ after) = parts ∙ ap (λ u. missed ++ u) (sym later ∙ first.whole) in
-      let size : length missed + length head + 1 ≡ end = omega (arith, n.after, n.within, length-append missed head, ap length cut.whole, ap length is_front, length-take (end - 1) text) in
+      let size : length missed + length head + 1 ≡ end = omega (arith, n.after, n.within, length-append missed head, ap length cut.whole, ap length is_prefix, length-take (end - 1) text) in
       record {
         whole = whole;
         closed = cut.closed;
         one = first.one;
-        misses = misses-front text missed (head ++ tail) parts (λ e some within. n.first e some (omega (arith, within, size)));
+        misses = misses-prefix text missed (head ++ tail) parts (λ e some within. n.first e some (omega (arith, within, size)));
         hit = hit-line apart text missed line after head tail end whole cut.closed parts cut.one size n.here;
       }
 
@@ -163,15 +163,15 @@ module _ (l : Literals) (normal : IsNormal l) where
         whole = cut.whole;
         closed = open_rest-nil;
         one = cut.one;
-        misses = misses-front text [] text refl (λ e more within. absurd (omega (arith, more, within)));
+        misses = misses-prefix text [] text refl (λ e more within. absurd (omega (arith, more, within)));
         hit = hit-line apart text [] line after (take (end - 1) text) (drop (end - 1) text) end cut.whole open_rest-nil (sym (take-append-drop (end - 1) text)) one size here;
       })
 
   -- in a text of ended lines it has a newline
-  pub no-hit-open : (text front tail missed head : List ℕ) (end : ℕ) → IsNextEnd l text 0 end → front ≡ take (end - 1) text → tail ≡ drop (end - 1) text
-      → IsLastCut front missed head → IsOnePiece tail → open_rest text ≡ [] → ⊥
-  no-hit-open text front tail missed head end n is_front is_tail cut one closed =
-      let parts = split_front text front tail missed head end is_front is_tail cut in
+  pub no-hit-open : (text prefix tail missed head : List ℕ) (end : ℕ) → IsNextEnd l text 0 end → prefix ≡ take (end - 1) text → tail ≡ drop (end - 1) text
+      → IsLastCut prefix missed head → IsOnePiece tail → open_rest text ≡ [] → ⊥
+  no-hit-open text prefix tail missed head end n is_prefix is_tail cut one closed =
+      let parts = split_prefix text prefix tail missed head end is_prefix is_tail cut in
       let joined = All-append (λ b. b ≢ 10) head tail cut.one one in
       let none : head ++ tail ≡ [] = sym (open_rest-ended missed (head ++ tail) cut.closed joined) ∙ sym (ap open_rest parts) ∙ closed in
       omega (arith, ap length none, length-append head tail, ap length is_tail, length-drop (end - 1) text, n.after, n.within)

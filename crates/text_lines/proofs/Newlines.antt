@@ -43,51 +43,51 @@ pub open_rest-ended : (ended rest : List ℕ) → open_rest ended ≡ [] → IsO
 open_rest-ended ended rest closed one = open_rest-append ended rest ∙ ap (λ r. open_rest (r ++ rest)) closed ∙ open_rest-none rest one
 
 -- two parts of a line are one
-pub one-append : (front back : List ℕ) → IsOnePiece front → IsOnePiece back → IsOnePiece (front ++ back)
-one-append front back h k = All-append (λ b. b ≢ 10) front back h k
+pub one-append : (prefix back : List ℕ) → IsOnePiece prefix → IsOnePiece back → IsOnePiece (prefix ++ back)
+one-append prefix back h k = All-append (λ b. b ≢ 10) prefix back h k
 
 -- a text cut after its last newline
 pub last-cut : (text ended rest : List ℕ) (at : ℕ) → IsLastByte (is_byte 10) text (Some at) → ended ≡ take (at + 1) text → rest ≡ drop (at + 1) text → IsLastCut text ended rest
-last-cut text ended rest at h front back = record {
-  whole = sym (take-append-drop (at + 1) text) ∙ ap (λ b. b ++ drop (at + 1) text) (sym front) ∙ ap (λ r. ended ++ r) (sym back);
-  closed = ap open_rest front ∙ last-closed text at h;
+last-cut text ended rest at h prefix back = record {
+  whole = sym (take-append-drop (at + 1) text) ∙ ap (λ b. b ++ drop (at + 1) text) (sym prefix) ∙ ap (λ r. ended ++ r) (sym back);
+  closed = ap open_rest prefix ∙ last-closed text at h;
   one = subst IsOnePiece (sym back) (after-one text at h);
 }
 
 -- it is cut so by the number of bytes after it
 pub last-cut-after : (text ended rest : List ℕ) (after : ℕ) → after < length text → IsOnePiece (drop (length text - after) text) → get_or text (length text - after - 1) 0 ≡ 10
     → ended ≡ take (length text - after) text → rest ≡ drop (length text - after) text → IsLastCut text ended rest
-last-cut-after text ended rest after few one newline front back =
+last-cut-after text ended rest after few one newline prefix back =
     let at = length text - after - 1 in
     let cut : length text - after ≡ at + 1 = omega (arith, few) in
     record {
-      whole = sym (take-append-drop (length text - after) text) ∙ ap (λ b. b ++ drop (length text - after) text) (sym front) ∙ ap (λ r. ended ++ r) (sym back);
-      closed = ap open_rest (front ∙ ap (λ n. take n text) cut ∙ take_more text at 0 (omega (arith, few)) ∙ ap (λ b. take at text ++ b ∷ []) newline) ∙ open_rest-closed (take at text);
+      whole = sym (take-append-drop (length text - after) text) ∙ ap (λ b. b ++ drop (length text - after) text) (sym prefix) ∙ ap (λ r. ended ++ r) (sym back);
+      closed = ap open_rest (prefix ∙ ap (λ n. take n text) cut ∙ take_more text at 0 (omega (arith, few)) ∙ ap (λ b. take at text ++ b ∷ []) newline) ∙ open_rest-closed (take at text);
       one = subst IsOnePiece (sym back) one;
     }
 
 -- and one without a newline
 pub last-cut-none : (text ended rest : List ℕ) → IsLastByte (is_byte 10) text None → ended ≡ [] → rest ≡ text → IsLastCut text ended rest
-last-cut-none text ended rest h front back = record {
-  whole = ap (λ b. b ++ text) (sym front) ∙ ap (λ r. ended ++ r) (sym back);
-  closed = ap open_rest front ∙ open_rest-nil;
+last-cut-none text ended rest h prefix back = record {
+  whole = ap (λ b. b ++ text) (sym prefix) ∙ ap (λ r. ended ++ r) (sym back);
+  closed = ap open_rest prefix ∙ open_rest-nil;
   one = subst IsOnePiece (sym back) (none_last text h);
 }
 
 pub last-cut-one : (text ended rest : List ℕ) → IsOnePiece text → ended ≡ [] → rest ≡ text → IsLastCut text ended rest
-last-cut-one text ended rest one front back = record {
-  whole = ap (λ b. b ++ text) (sym front) ∙ ap (λ r. ended ++ r) (sym back);
-  closed = ap open_rest front ∙ open_rest-nil;
+last-cut-one text ended rest one prefix back = record {
+  whole = ap (λ b. b ++ text) (sym prefix) ∙ ap (λ r. ended ++ r) (sym back);
+  closed = ap open_rest prefix ∙ open_rest-nil;
   one = subst IsOnePiece (sym back) one;
 }
 
--- a front of a text is as much of it as its length says
-pub front-whole : (text front : List ℕ) (n : ℕ) → front ≡ take n text → front ≡ take (length front) text
-front-whole text front n is =
-    let size : length front ≡ min n (length text) = ap length is ∙ length-take n text in
+-- a prefix of a text is as much of it as its length says
+pub prefix-whole : (text prefix : List ℕ) (n : ℕ) → prefix ≡ take n text → prefix ≡ take (length prefix) text
+prefix-whole text prefix n is =
+    let size : length prefix ≡ min n (length text) = ap length is ∙ length-take n text in
     is ∙ sym (take_min n text) ∙ ap (λ k. take k text) (sym size)
 
--- a shorter front of a text without newlines has none
+-- a shorter prefix of a text without newlines has none
 pub one-shorter : (text : List ℕ) (m n : ℕ) → m ≤ n → IsOnePiece (take n text) → IsOnePiece (take m text)
 one-shorter text m n le one k d inside e =
     let below : k < m = omega (arith, length-take m text, inside) in

@@ -8,9 +8,9 @@ use Rattle.text_search.specs.Searched.{Searched}
 
 -- a text stands in another after lines that newlines end, or after nothing
 pub record IsAfterLines (whole text : List ℕ) : Type 0 where
-  pub front : List ℕ
-  pub cut : whole ≡ front ++ text
-  pub closed : open_rest front ≡ []
+  pub prefix : List ℕ
+  pub cut : whole ≡ prefix ++ text
+  pub closed : open_rest prefix ≡ []
 
 -- no line that a newline ends in the text holds a literal
 abbrev pub AllMiss : Literals → List ℕ → Type 0

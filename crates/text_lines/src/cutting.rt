@@ -26,8 +26,8 @@ fn lines_in_sample(text: &[u8]) -> usize {
     if text.len() < SAMPLE {
         return 0;
     }
-    let (front, _) = text.split_at(SAMPLE);
-    count_newlines(front)
+    let (prefix, _) = text.split_at(SAMPLE);
+    count_newlines(prefix)
 }
 
 /// The text before the first newline, and the text after it, if there is a newline.
@@ -181,17 +181,17 @@ pub fn split_ended(text: &[u8]) -> (&[u8], &[u8])
 /// The prefix of a text up to its last newline, and the rest. One comparison does it where the newline is near the end,
 /// or where the prefix is short and has none: for a few bytes a search from the end takes longer.
 #[inline(always)]
-pub(crate) fn split_front<'t>(front: &'t [u8], text: &[u8]) -> (&'t [u8], &'t [u8])
-    requires { front.now ≡ take (length front.now) text.now }
-    ensures { IsLastCut front.now result.0.now result.1.now }
+pub(crate) fn split_prefix<'t>(prefix: &'t [u8], text: &[u8]) -> (&'t [u8], &'t [u8])
+    requires { prefix.now ≡ take (length prefix.now) text.now }
+    ensures { IsLastCut prefix.now result.0.now result.1.now }
 {
-    if front.len() >= LANES {
-        return split_near_end(front);
+    if prefix.len() >= LANES {
+        return split_near_end(prefix);
     }
-    if text.len() >= LANES && front.len() <= first_newline(text) {
-        return front.split_at(0);
+    if text.len() >= LANES && prefix.len() <= first_newline(text) {
+        return prefix.split_at(0);
     }
-    split_ended(front)
+    split_ended(prefix)
 }
 
 /// A text of at least 64 bytes up to its last newline, and the rest, by one comparison if this newline is near the end.

@@ -7,7 +7,7 @@ ghost use Rattle.lit_base.specs.NextEnds.{IsNextEnd, NoEndAfter};
 ghost use Rattle.text_lines.specs.HitLines.{AllMiss, IsFirstHitLine};
 
 use crate::column::Column;
-use crate::cutting::{split_front, split_line_after, split_near_line};
+use crate::cutting::{split_line_after, split_near_line, split_prefix};
 use flow_scan::{Compiled, EndFinder, TextSearch};
 use std::marker::Model;
 
@@ -24,7 +24,7 @@ pub struct HitLine<'t> {
 impl<'t> HitLine<'t> {
     /// The first line of a text, with what stands after its newline.
     #[inline(always)]
-    fn in_front(text: &'t [u8], line: &'t [u8], after: &'t [u8]) -> HitLine<'t>
+    fn in_prefix(text: &'t [u8], line: &'t [u8], after: &'t [u8]) -> HitLine<'t>
         ensures missed { result.missed.now ≡ [] }
         ensures line { result.line.now ≡ line.now }
         ensures after { result.after.now ≡ after.now }
@@ -133,7 +133,7 @@ impl<'a> HitLines<'a> {
         let end = self.first_end()?;
         if let Some((line, after)) = split_line_after(text, end) {
             self.column.note(end);
-            return Some(HitLine::in_front(text, line, after));
+            return Some(HitLine::in_prefix(text, line, after));
         }
         line_round(compiled, &mut self.column, text, end)
     }
@@ -172,7 +172,7 @@ impl<'a> HitLines<'a> {
         if line.len() < at {
             return None;
         }
-        Some(HitLine::in_front(text, line, after))
+        Some(HitLine::in_prefix(text, line, after))
     }
 
     /// Whether some literal ends after the first `at` bytes of the rest: the literal found last in this way, or another.
@@ -251,8 +251,8 @@ fn line_round<'t>(
         (AllMiss compiled.now.literals text.now)
         (λ hit. IsFirstHitLine compiled.now.literals text.now hit.missed.now hit.line.now hit.after.now) }
 {
-    let (front, tail) = text.split_at(end - 1);
-    let (missed, head) = split_front(front, text);
+    let (prefix, tail) = text.split_at(end - 1);
+    let (missed, head) = split_prefix(prefix, text);
     let (ending, after) = split_near_line(tail)?;
     let (_, rest) = text.split_at(missed.len());
     let (line, _) = rest.split_at(head.len() + ending.len());

@@ -212,9 +212,9 @@ impl EndFinder {
             let stop = text
                 .len()
                 .min(place.saturating_add(span_after(place - from)));
-            let (front, _) = text.split_at(stop);
+            let (prefix, _) = text.split_at(stop);
             let left = most - (out.len() - before);
-            match self.add_hits(compiled, front, place, place as u64, left, out) {
+            match self.add_hits(compiled, prefix, place, place as u64, left, out) {
                 Ok(end) => place = end,
                 Err(refused) => {
                     out.truncate(before);

@@ -20,8 +20,8 @@ impl Sample {
     /// Adds the bytes of a piece, up to the room. Returns whether the sample is full, and so long enough to tune by.
     pub fn add(&mut self, piece: &[u8]) -> bool {
         let room = LEAST_SAMPLE.saturating_sub(self.bytes.len());
-        let (front, _) = piece.split_at(room.min(piece.len()));
-        self.bytes.extend_from_slice(front).is_ok() && self.bytes.len() >= LEAST_SAMPLE
+        let (prefix, _) = piece.split_at(room.min(piece.len()));
+        self.bytes.extend_from_slice(prefix).is_ok() && self.bytes.len() >= LEAST_SAMPLE
     }
 
     /// The bytes that were gathered.

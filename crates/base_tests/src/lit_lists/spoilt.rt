@@ -105,11 +105,11 @@ fn assert_none_differ<R: Abort + AllocGlobal>(rt: &R, fold: Fold) {
 }
 
 #[test]
-fn tells_words_from_spoilt_ones(rt: HostRuntime) {
+fn distinguishes_words_from_near_misses(rt: HostRuntime) {
     assert_none_differ(&rt, Fold::No);
 }
 
 #[test]
-fn tells_words_from_spoilt_ones_in_either_case(rt: HostRuntime) {
+fn distinguishes_words_from_near_misses_in_either_case(rt: HostRuntime) {
     assert_none_differ(&rt, Fold::Ascii);
 }

@@ -244,7 +244,7 @@ fn finds_short_ones_too(rt: HostRuntime) {
 }
 
 #[test]
-fn tells_them_from_those_with_a_byte_spoilt(rt: HostRuntime) {
+fn distinguishes_them_from_near_misses(rt: HostRuntime) {
     assert_eq!(rt;
         agree(rt.alloc(), Fold::No, [&WORDS, &WORDS], 4, 1, 50_000),
         Some(true)

@@ -5,13 +5,13 @@ ghost use Rattle.std.specs.Int.RustNames.{bit_and, bit_or};
 ghost use Rattle.list_index.specs.Chains.{key_width_at};
 ghost use Rattle.list_index.specs.Checks.{AreChecksOf, IsCheckOf, IsChecked};
 ghost use Rattle.lit_base.specs.Literals.{Literals};
-ghost use Rattle.list_index.specs.Marks.{IsMarked};
+ghost use Rattle.list_index.specs.HashBits.{IsMarked};
 ghost use Rattle.lit_base.specs.Occurrences.{Occurs};
 ghost use Rattle.list_index.specs.Suffixes.{hash_of, last_bits, suffix_key, key_width};
 ghost use Rattle.list_index.specs.declared.suffixes.checks.TheConstants.{CHECK_BITS};
 
+use crate::suffixes::hash_bits::{mark, marked_len};
 use crate::suffixes::key::{case_bits, hash_of, key_width, last_bits, last_word, suffix_key};
-use crate::suffixes::marks::{mark, marked_len};
 use lit_base::{Fold, LitList};
 use std::alloc::{AllocError, Global};
 

@@ -28,9 +28,9 @@ fn long_text(alloc: Global) -> Option<Vec<u8>> {
 
 /// What a picker emits of a text whose last seven bytes are a piece of their own.
 fn emitted_by(alloc: Global, picker: &mut Picker<'_>, text: &[u8]) -> Option<Vec<u8>> {
-    let (front, rest) = text.split_at(text.len().saturating_sub(7));
+    let (prefix, rest) = text.split_at(text.len().saturating_sub(7));
     let mut sink = Kept::new(alloc, Mood::Takes);
-    picker.feed(front, &mut sink).ok()?;
+    picker.feed(prefix, &mut sink).ok()?;
     picker.feed(rest, &mut sink).ok()?;
     picker.finish(&mut sink).ok()?;
     Some(sink.text)
@@ -82,10 +82,10 @@ fn emitted_by_late_finder(
     if !is_in_lines(compiled) {
         return None;
     }
-    let (front, rest) = text.split_at(text.len() / 2);
+    let (prefix, rest) = text.split_at(text.len() / 2);
     let mut picker = Picker::new(alloc, Some(compiled), false, rule);
     let mut sink = Kept::new(alloc, Mood::Takes);
-    picker.feed(front, &mut sink).ok()?;
+    picker.feed(prefix, &mut sink).ok()?;
     picker.learn_by(finder_by(alloc, compiled)?);
     picker.feed(rest, &mut sink).ok()?;
     picker.finish(&mut sink).ok()?;

@@ -19,11 +19,11 @@ const RESCUED: &[u8] =
 /// as many bytes `a` after another one.
 fn finds_rows(alloc: Global, count: usize) -> Option<bool> {
     let row = row_of(alloc, count).ok()?;
-    let mut fronts: Vec<&[u8]> = Vec::new(alloc);
+    let mut prefixes: Vec<&[u8]> = Vec::new(alloc);
     for len in 1..=count {
-        fronts.push(row.get(..len)?).ok()?;
+        prefixes.push(row.get(..len)?).ok()?;
     }
-    let compiled = plan_of(alloc, Fold::No, fronts.as_slice())?;
+    let compiled = plan_of(alloc, Fold::No, prefixes.as_slice())?;
     let mut text = Vec::from_slice(alloc, b"ba").ok()?;
     text.extend_from_slice(&row).ok()?;
     finds_the_same(alloc, &compiled, text.as_slice())

@@ -63,17 +63,17 @@ pub(super) fn finds_the_same(alloc: Global, compiled: &Compiled, text: &[u8]) ->
 }
 
 /// Whether it does in a text of the words, changed so.
-fn tells_apart(alloc: Global, words: &[&[u8]], spoilt: u8) -> Option<bool> {
+fn distinguishes(alloc: Global, words: &[&[u8]], spoilt: u8) -> Option<bool> {
     let compiled = plan_of(alloc, Fold::No, words)?;
     let text = spoilt_text(alloc, words, spoilt)?;
     finds_the_same(alloc, &compiled, text.as_slice())
 }
 
 #[test]
-fn tells_words_from_spoilt_ones(rt: HostRuntime) {
+fn distinguishes_words_from_near_misses(rt: HostRuntime) {
     let (_, long) = WORDS.split_at(4);
     for spoilt in [0, 1, 2, 0x20] {
-        assert_eq!(rt; tells_apart(rt.alloc(), &WORDS, spoilt), Some(true));
-        assert_eq!(rt; tells_apart(rt.alloc(), long, spoilt), Some(true));
+        assert_eq!(rt; distinguishes(rt.alloc(), &WORDS, spoilt), Some(true));
+        assert_eq!(rt; distinguishes(rt.alloc(), long, spoilt), Some(true));
     }
 }

@@ -11,7 +11,7 @@ loop-rest-init c = record {
   near = omega arith;
   marked = λ other near here.
       let whole : other - 0 ≡ other = omega arith in
-      (omega arith, ap (bit_at c.args.marks) whole ∙ c.requires.marked other near here);
+      (omega arith, ap (bit_at c.args.hash_bits) whole ∙ c.requires.marked other near here);
 }
 
 pub overflow_add-back : goal.overflow_add-back

@@ -6,7 +6,7 @@ use Rattle.factor_search.proofs.marking.clear.Goals as goal
 
 pub loop-number-preserved : goal.loop-number-preserved
 loop-number-preserved c =
-    let items = c.loop-number.marks.items in
+    let items = c.loop-number.hash_bits.items in
     let number = c.loop-number.number in
     let before = c.loop-number.invariant in
     record {
@@ -20,7 +20,7 @@ loop-number-preserved c =
     }
 
 pub returns-clause-cleared : goal.returns-clause-cleared
-returns-clause-cleared c = λ number. elim (cases_lt number (length c.loop-number.marks.items)) [
+returns-clause-cleared c = λ number. elim (cases_lt number (length c.loop-number.hash_bits.items)) [
   | inl inside ↦ c.loop-number.invariant.cleared number (omega (arith, inside, c.loop-number-test.false, c.len-number-end.ensures, c.loop-number.invariant.len))
-  | inr past ↦ get_or_past c.loop-number.marks.items number 0 past
+  | inr past ↦ get_or_past c.loop-number.hash_bits.items number 0 past
 ]

@@ -4,6 +4,6 @@ use Rattle.factor_search.proofs.marking.clear.Given as goal
 -- the bytes passed are zero
 abbrev pub invariant-loop-number : goal.invariant-loop-number
 invariant-loop-number l = record {
-  len : vec_len l.marks ≡ vec_len l.fn.marks;
-  cleared : (number : ℕ) → number < l.number → slice_index l.marks.items number ≡ 0;
+  len : vec_len l.hash_bits ≡ vec_len l.fn.hash_bits;
+  cleared : (number : ℕ) → number < l.number → slice_index l.hash_bits.items number ≡ 0;
 }

@@ -3,4 +3,4 @@ use Rattle.factor_search.proofs.marking.mark_all.Given as goal
 
 -- the literals passed are marked, and nothing else is
 abbrev pub invariant-loop-place : goal.invariant-loop-place
-invariant-loop-place l = AreMarkedByFactors l.list l.offsets.items l.marks.items l.place
+invariant-loop-place l = AreMarkedByFactors l.list l.offsets.items l.hash_bits.items l.place

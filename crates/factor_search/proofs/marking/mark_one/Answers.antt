@@ -3,7 +3,7 @@ use Rattle.std.proofs.Common.{◌≡◌, ◌-◌, [], length, inl, inr, sym, ◌
 use Rattle.std.proofs.lemmas.List.{get_or_read}
 use Rattle.lit_base.specs.Literals.{literal_at}
 use Rattle.list_index.specs.Suffixes.{hash_of, suffix_key}
-use Rattle.list_index.specs.declared.suffixes.marks.TheConstants.{HASH_BITS}
+use Rattle.list_index.specs.declared.suffixes.hash_bits.TheConstants.{HASH_BITS}
 use Rattle.factor_search.proofs.marking.mark_one.Goals as goal
 
 pub returns-clause-only : goal.returns-clause-only

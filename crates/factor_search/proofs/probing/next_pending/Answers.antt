@@ -13,8 +13,8 @@ probe_passing-requires-clause-passing c = λ place end occurs after inside.
     passes c.args.factors.now (widened c.masks.result.now) c.args.text.now c.blocks-2.at c.passing-passing.result c.masks.ensures c.within_law.ensures (all_bytes c.args.text.now c.type_inv.text)
     (rw c.new-filter.ensures at c.passing-passing.ensures) place end occurs after (omega (arith, inside))
 
-pub returns-then-passing-marks-ne0-clause-pending : goal.returns-then-passing-marks-ne0-clause-pending
-returns-then-passing-marks-ne0-clause-pending c = λ first place end occurs later after ahead.
+pub returns-then-passing-hash_bits-ne0-clause-pending : goal.returns-then-passing-hash_bits-ne0-clause-pending
+returns-then-passing-hash_bits-ne0-clause-pending c = λ first place end occurs later after ahead.
     c.probe_passing.ensures c.args.seen (c.blocks-2.invariant.pending first) place end occurs later after (omega (arith, ahead))
 
 pub blocks-2-preserved : goal.blocks-2-preserved
@@ -24,14 +24,14 @@ blocks-2-preserved c =
     let seen : ℕ = c.args.seen in
     let at : ℕ = c.blocks-2.at in
     let before = c.blocks-2.invariant in
-    let none = c.if-passing-marks-ne0.false in
-    let none_passing : c.passing-passing.result ≡ 0 = omega (arith, le_or_l c.passing-passing.result c.args.marks, none) in
-    let unmarked : c.args.marks ≡ 0 = omega (arith, le_or_r c.passing-passing.result c.args.marks, none) in
-    let further = λ (first : ArePending w text seen seen (seen + 1) c.args.marks).
+    let none = c.if-passing-hash_bits-ne0.false in
+    let none_passing : c.passing-passing.result ≡ 0 = omega (arith, le_or_l c.passing-passing.result c.args.hash_bits, none) in
+    let unmarked : c.args.hash_bits ≡ 0 = omega (arith, le_or_r c.passing-passing.result c.args.hash_bits, none) in
+    let further = λ (first : ArePending w text seen seen (seen + 1) c.args.hash_bits).
     none_passes w (widened c.masks.result.now) text at c.passing-passing.result c.masks.ensures c.within_law.ensures (all_bytes text c.type_inv.text) (rw c.new-filter.ensures at c.passing-passing.ensures) seen at none_passing
     (subst (λ (m : ℕ). ArePending w text seen at (at + 1) m) unmarked (before.pending first)) in
     record {
-      front = omega (arith, before.front);
+      prefix = omega (arith, before.prefix);
       ahead = omega (arith, before.ahead);
       inside = omega (arith, c.blocks-2-test.true, before.inside);
       none = λ first. none_joined w.literals text seen at (before.none first) (at + 64) (nothing_pending w text seen at (at + 64) before.ahead (further first));
@@ -42,8 +42,8 @@ pub returns-clause-pending : goal.returns-clause-pending
 returns-clause-pending c = λ first place end occurs later after before.
     c.probe_each.ensures c.args.seen (c.blocks-2.invariant.pending first) place end occurs later after (omega (arith, before, c.min-count.ensures))
 
-pub returns-then-seen-lt-FRONT-clause-none : goal.returns-then-seen-lt-FRONT-clause-none
-returns-then-seen-lt-FRONT-clause-none c = λ first end later within here. absurd (omega (arith, later, within))
+pub returns-then-seen-lt-FIRST-clause-none : goal.returns-then-seen-lt-FIRST-clause-none
+returns-then-seen-lt-FIRST-clause-none c = λ first end later within here. absurd (omega (arith, later, within))
 
-pub returns-then-seen-lt-FRONT-clause-pending : goal.returns-then-seen-lt-FRONT-clause-pending
-returns-then-seen-lt-FRONT-clause-pending c = λ first. c.pending_after.ensures c.args.seen first
+pub returns-then-seen-lt-FIRST-clause-pending : goal.returns-then-seen-lt-FIRST-clause-pending
+returns-then-seen-lt-FIRST-clause-pending c = λ first. c.pending_after.ensures c.args.seen first

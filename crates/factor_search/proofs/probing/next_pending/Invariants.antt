@@ -6,12 +6,12 @@ use Rattle.factor_search.proofs.probing.next_pending.Given as goal
 -- nothing ends in the blocks passed
 abbrev pub invariant-blocks-2 : goal.invariant-blocks-2
 invariant-blocks-2 l = record {
-  front : 3 ≤ l.at;
+  prefix : 3 ≤ l.at;
   ahead : l.seen ≤ l.at;
   inside : l.at ≤ length l.text;
-  none : ArePending l.factors l.text l.seen l.seen (l.seen + 1) l.marks → NoEndUpTo l.factors.literals l.text l.seen l.at;
-  pending : ArePending l.factors l.text l.seen l.seen (l.seen + 1) l.marks
-      → ArePending l.factors l.text l.seen l.at (l.at + 1) l.marks;
+  none : ArePending l.factors l.text l.seen l.seen (l.seen + 1) l.hash_bits → NoEndUpTo l.factors.literals l.text l.seen l.at;
+  pending : ArePending l.factors l.text l.seen l.seen (l.seen + 1) l.hash_bits
+      → ArePending l.factors l.text l.seen l.at (l.at + 1) l.hash_bits;
 }
 
 abbrev pub decreases-blocks-2 : goal.decreases-blocks-2

@@ -13,8 +13,8 @@ pub places-preserved : goal.places-preserved
 places-preserved c = record {
   few = omega (arith, c.places-test.true);
   pending = λ from first.
-      pending_further c.args.factors.now c.args.text.now from c.args.seen c.places.back c.places.found c.marks_at-probed.result (omega (arith, c.places-test.true, c.requires.few))
-      c.within_law.ensures c.marks_at-probed.ensures (c.places.invariant.pending from first);
+      pending_further c.args.factors.now c.args.text.now from c.args.seen c.places.back c.places.found c.hash_bits_at-probed.result (omega (arith, c.places-test.true, c.requires.few))
+      c.within_law.ensures c.hash_bits_at-probed.ensures (c.places.invariant.pending from first);
 }
 
 pub returns : goal.returns

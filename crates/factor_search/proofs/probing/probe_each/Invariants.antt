@@ -6,7 +6,7 @@ use Rattle.factor_search.proofs.probing.probe_each.Given as goal
 abbrev pub invariant-places : goal.invariant-places
 invariant-places l = record {
   few : l.back ≤ l.count;
-  pending : (from : ℕ) → ArePending l.factors l.text from l.seen (l.seen + 1) l.marks
+  pending : (from : ℕ) → ArePending l.factors l.text from l.seen (l.seen + 1) l.hash_bits
       → ArePending l.factors l.text from l.seen (l.seen + 1 + l.back) l.found;
 }
 

@@ -26,14 +26,14 @@ places-preserved c =
     let before = c.places.invariant in
     let back : ℕ = c.split_lowest-back.result.0 in
     record {
-      left = left_further c.args.factors.now c.args.text.now c.args.seen c.within_law.ensures c.places.found c.places.rest back c.split_lowest-back.result.1 c.hash_bits_after_front-probed.result
-          c.split_lowest-back.ensures c.hash_bits_after_front-probed.ensures before.left;
-      kept = λ other near set. marked_below c.places.found c.hash_bits_after_front-probed.result back other near (before.kept other near set);
+      left = left_further c.args.factors.now c.args.text.now c.args.seen c.within_law.ensures c.places.found c.places.rest back c.split_lowest-back.result.1 c.hash_bits_after_prefix-probed.result
+          c.split_lowest-back.ensures c.hash_bits_after_prefix-probed.ensures before.left;
+      kept = λ other near set. marked_below c.places.found c.hash_bits_after_prefix-probed.result back other near (before.kept other near set);
       low = λ other set. before.low other ((c.split_lowest-back.ensures.others other).0 set).1;
     }
 
 pub returns : goal.returns
 returns c = λ from.
     let before = c.places.invariant in
-    masked_pending c.args.factors.now c.args.text.now c.args.seen c.within_law.ensures from c.args.marks c.places.found c.places.rest
+    masked_pending c.args.factors.now c.args.text.now c.args.seen c.within_law.ensures from c.args.hash_bits c.places.found c.places.rest
     (λ k near. ap (λ m. bit_at m k) c.places-test.false ∙ bit_at-zero k) before.left before.kept

@@ -7,7 +7,7 @@ use Rattle.factor_search.proofs.probing.probe_passing.Given as goal
 abbrev pub invariant-places : goal.invariant-places
 invariant-places l = record {
   left : AreLeft l.factors l.text l.seen l.found l.rest;
-  kept : (back : ℕ) → back < 64 → bit_at l.marks back ≡ 1 → bit_at l.found back ≡ 1;
+  kept : (back : ℕ) → back < 64 → bit_at l.hash_bits back ≡ 1 → bit_at l.found back ≡ 1;
   low : (back : ℕ) → bit_at l.rest back ≡ 1 → back < 56;
 }
 

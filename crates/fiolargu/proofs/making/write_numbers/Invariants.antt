@@ -1,4 +1,4 @@
--- The numbers so far stand at the front of the buffer.
+-- The numbers so far stand at the start of the buffer.
 use Rattle.std.proofs.Common.{◌≡◌, drop, length, map, take}
 use Rattle.fiolargu.specs.Made.{number_at}
 use Rattle.fiolargu.proofs.making.write_numbers.Given as goal

@@ -1,4 +1,4 @@
--- The hits so far stand at the front of the buffer, each with the length of its literal.
+-- The hits so far stand at the start of the buffer, each with the length of its literal.
 use Rattle.std.proofs.Common.{◌≡◌, drop, map, take}
 use Rattle.fiolargu.specs.Found.{HaveLengths, hit_of}
 use Rattle.fiolargu.proofs.scans.write_hits.Given as goal

@@ -7,7 +7,7 @@ use Rattle.flow_scan.proofs.boundary.keep_last.Goals as goal
 -- a piece that was offered whole is held whole
 pub returns-then-piece-ahead-clause-tail : goal.returns-then-piece-ahead-clause-tail
 returns-then-piece-ahead-clause-tail c =
-    ap (last_bytes c.args.carry) (kept_short c.args.held c.args.room.now.items c.args.piece.now (c.requires.front c.if-piece-ahead.true))
+    ap (last_bytes c.args.carry) (kept_short c.args.held c.args.room.now.items c.args.piece.now (c.requires.prefix c.if-piece-ahead.true))
 
 -- of a longer piece the last bytes are enough
 pub returns-clause-tail : goal.returns-clause-tail

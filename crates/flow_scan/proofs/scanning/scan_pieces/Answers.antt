@@ -24,8 +24,8 @@ joined_more pieces i x within is =
     ∙ ap (λ (v : Vec ℕ). concat (bytes_of (take i pieces) ++ v.items ∷ [])) (sym is) ∙ concat_push (bytes_of (take i pieces)) x.items
 
 -- the first pieces, joined, are no longer than all
-joined_front : (pieces : List (Vec ℕ)) (n : ℕ) → length (concat (bytes_of (take n pieces))) ≤ length (concat (bytes_of pieces))
-joined_front pieces n =
+joined_prefix : (pieces : List (Vec ℕ)) (n : ℕ) → length (concat (bytes_of (take n pieces))) ≤ length (concat (bytes_of pieces))
+joined_prefix pieces n =
     let whole : bytes_of (take n pieces) ++ bytes_of (drop n pieces) ≡ bytes_of pieces =
     sym (map-append (λ (v : Vec ℕ). v.items) (take n pieces) (drop n pieces)) ∙ ap bytes_of (take-append-drop n pieces) in
     omega (
@@ -97,7 +97,7 @@ returns-in_err-feed-clause-refused c =
     ap (λ ts. text ++ ts) c.deref.ensures.value ∙ sym (joined_more pieces i c.piece-item.result c.loop-piece-test.true c.piece-item.is) in
     let p = err_from_is_err_and c.from_residual-in_err-feed.result c.from_residual-in_err-feed.ensures.1 in
     rw (p.1, p.2) (elim c.in_err-feed.ensures.faults [
-      | inl long ↦ inr (long, omega (arith, c.in_err-feed.ensures.too_long.0 (ap Err long), c.loop-piece.invariant.place, ap length joined, length-append text piece, joined_front pieces (i + 1)))
+      | inl long ↦ inr (long, omega (arith, c.in_err-feed.ensures.too_long.0 (ap Err long), c.loop-piece.invariant.place, ap length joined, length-append text piece, joined_prefix pieces (i + 1)))
       | inr memory ↦ inl memory
     ])
 

@@ -1,5 +1,5 @@
 use Rattle.std.proofs.Common.{All, map, string_bytes, drop}
-use Rattle.byte_io.specs.Devices.{Told}
+use Rattle.byte_io.specs.Devices.{IfKnown}
 use Rattle.byte_io.specs.Sources.{AreShort}
 use Rattle.lit_base.specs.Lines.{IsOnePiece}
 use Rattle.grep_run.specs.Options.{asks_for}
@@ -10,6 +10,6 @@ use Rattle.grep_run.proofs.patterns.add_files.Given as goal
 abbrev pub invariant-loop-file : goal.invariant-loop-file
 invariant-loop-file g l = record {
   apart : All IsOnePiece l.fn.patterns → All IsOnePiece l.patterns;
-  files : Told (g.O.Opener.sources l.fn.opener) (g.O.Opener.sources l.opener) (λ s left. AreShort s
+  files : IfKnown (g.O.Opener.sources l.fn.opener) (g.O.Opener.sources l.opener) (λ s left. AreShort s
       → FilesSoFar l.fn.patterns l.patterns (asks_for (map string_bytes l.files)) (asks_for (map string_bytes (drop l.file-index l.files))) s left);
 }

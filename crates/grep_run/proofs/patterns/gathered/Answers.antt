@@ -1,6 +1,6 @@
 -- All lists and all files gave their patterns.
 use Rattle.std.proofs.Common.{◌≡◌, ◌∙◌, [], None, ap, map, string_bytes, subst}
-use Rattle.byte_io.specs.Devices.{Told}
+use Rattle.byte_io.specs.Devices.{IfKnown}
 use Rattle.byte_io.specs.Sources.{AreShort}
 use Rattle.grep_run.specs.Gathering.{TakesAllFiles}
 use Rattle.grep_run.specs.Options.{asks_for}
@@ -14,6 +14,6 @@ returns g c =
     had-all c.args.options.now _ _ c.in_ok-patterns.patterns c.add_files.new.patterns c.in_ok-new.field-0
     (subst (λ xs. lists_refusal [] (map string_bytes xs) ≡ None) c.as_slice.ensures.value c.in_ok-patterns.ensures.refusal)
     (c.in_ok-patterns.ensures.ok ∙ ap (λ xs. patterns_in (map string_bytes xs)) c.as_slice.ensures.value)
-    (subst (λ xs. Told (g.O.Opener.sources c.args.opener.now) (g.O.Opener.sources c.add_files.new.opener) (λ s left. AreShort s → TakesAllFiles c.in_ok-patterns.patterns c.add_files.new.patterns s left (found (asks_for (map string_bytes xs)) s)))
+    (subst (λ xs. IfKnown (g.O.Opener.sources c.args.opener.now) (g.O.Opener.sources c.add_files.new.opener) (λ s left. AreShort s → TakesAllFiles c.in_ok-patterns.patterns c.add_files.new.patterns s left (found (asks_for (map string_bytes xs)) s)))
     c.as_slice-2.ensures.value c.in_ok-add_files.ensures.answer)
     c.in_ok-new.ensures.ok

@@ -14,4 +14,4 @@ returns-in_ok-found-in-Ok-clause-answer g c =
 
 pub returns-in-Err-clause-answer : goal.returns-in-Err-clause-answer
 returns-in-Err-clause-answer g c =
-    answers-refused c.args.options.now _ _ c.in-Err.why c.refuse.result _ _ _ c.refuse.ensures.status c.in-Err.ensures c.refuse.ensures.told
+    answers-refused c.args.options.now _ _ c.in-Err.why c.refuse.result _ _ _ c.refuse.ensures.status c.in-Err.ensures c.refuse.ensures.reported

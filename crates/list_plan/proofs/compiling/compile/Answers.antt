@@ -5,7 +5,7 @@ use Rattle.list_plan.proofs.compiling.compile.Goals as goal
 pub returns-clause-planned : goal.returns-clause-planned
 returns-clause-planned c =
     let made : IsPlanned c.args.list c.args.profile c.in_ok-certificate.certificate =
-    record { told = c.in_ok-certificate.ensures.profile; first = c.in_ok-certificate.ensures.first; cost = c.in_ok-certificate.ensures.cost; potentials = c.in_ok-certificate.ensures.potentials; len = c.in_ok-certificate.ensures.len } in
+    record { for_profile = c.in_ok-certificate.ensures.profile; first = c.in_ok-certificate.ensures.first; cost = c.in_ok-certificate.ensures.cost; potentials = c.in_ok-certificate.ensures.potentials; len = c.in_ok-certificate.ensures.len } in
     rw c.certified.ensures made
 
 -- and what no assignment costs less than is its cost

@@ -2,7 +2,7 @@ use Rattle.std.proofs.Common.{List, ℕ, ◌≡◌, ◌<◌, ◌^◌, ◌∙◌,
 use Rattle.std.specs.Fmt.{decimal}
 use Rattle.lit_cert.specs.Spelling.{literals_words}
 use Rattle.std.proofs.lemmas.Fmt.{decimal_injective}
-use Rattle.lit_cert.proofs.Lines.{no_line_alone, line_is, is_line, after_front, plain_number, lacks_by_test}
+use Rattle.lit_cert.proofs.Lines.{no_line_alone, line_is, is_line, after_prefix, plain_number, lacks_by_test}
 use Rattle.lit_cert.proofs.parsing.literals_line.Goals as goal
 
 pub returns-in_err-line-clause-none : goal.returns-in_err-line-clause-none
@@ -31,6 +31,6 @@ returns-then-n-lt1-clause-none c n rest count e =
 pub returns-clause-found : goal.returns-clause-found
 returns-clause-found c =
     let found = c.in_ok-line.ensures.found in
-    let front = c.in_ok-strip_prefix.ensures.cases in
-    let line = after_front 9 c.in_ok-line.line.now (codes "literals ") c.in_ok-strip_prefix.field-0.now front.0 front.1 ∙ ap (λ (t : List ℕ). codes "literals " ++ t) c.in_ok-n.ensures.found.1 in
+    let prefix = c.in_ok-strip_prefix.ensures.cases in
+    let line = after_prefix 9 c.in_ok-line.line.now (codes "literals ") c.in_ok-strip_prefix.field-0.now prefix.0 prefix.1 ∙ ap (λ (t : List ℕ). codes "literals " ++ t) c.in_ok-n.ensures.found.1 in
     (record { some = omega arith; few = omega arith }, is_line c.args.text.now c.in_ok-line.line.now c.in_ok-line.rest.now (literals_words c.in_ok-n.n) found.0 line)

@@ -1,4 +1,4 @@
--- The message was written, or a front of it where the write failed.
+-- The message was written, or a prefix of it where the write failed.
 use Rattle.grep_run.specs.Writers.{writer}
 use Rattle.litgrep.proofs.SayLemmas.{says-written}
 use Rattle.litgrep.proofs.program.refuse.Goals as goal

@@ -4,7 +4,7 @@ use Rattle.lit_plan.specs.declared.compiled.Compiled.{Compiled}
 use Rattle.plan_file.specs.declared.fault.Cause.{Cause}
 use Rattle.plan_file.specs.declared.fault.Fault.{Fault}
 use Rattle.plan_file.specs.declared.fault.Fault.TheVariants.{BadPlanFile}
-use Rattle.plan_file.proofs.OneWay.{first_fault, none_wrong, one_list, told}
+use Rattle.plan_file.proofs.OneWay.{first_fault, none_wrong, one_list, same_cause}
 use Rattle.plan_file.proofs.PlaceLemmas.{wrong_within}
 use Rattle.plan_file.proofs.decoding.decode.Goals as goal
 
@@ -27,4 +27,4 @@ pub returns-in-Err-Wrong-clause-wrong : goal.returns-in-Err-Wrong-clause-wrong
 returns-in-Err-Wrong-clause-wrong c = first_fault c.args.bytes.now c.in-Err-Wrong.wrong (rw c.in-Err-Wrong.field-0-is at c.in-Err-Wrong.ensures.wrong)
 
 pub returns-in-Err-Wrong-clause-exact : goal.returns-in-Err-Wrong-clause-exact
-returns-in-Err-Wrong-clause-exact c = λ place cause first memory. told bad_file c.args.bytes.now c.in-Err-Wrong.wrong place cause (rw c.in-Err-Wrong.field-0-is at c.in-Err-Wrong.ensures.wrong) first
+returns-in-Err-Wrong-clause-exact c = λ place cause first memory. same_cause bad_file c.args.bytes.now c.in-Err-Wrong.wrong place cause (rw c.in-Err-Wrong.field-0-is at c.in-Err-Wrong.ensures.wrong) first

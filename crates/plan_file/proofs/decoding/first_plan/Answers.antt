@@ -34,7 +34,7 @@ returns-in_err-entry-clause-wrong c =
 
 -- the reason of a refusal is the first condition that fails
 refused_for : (list old_list : Literals) (certificate old_certificate : CertificateParts) (fault : Fault) (reason : Reason) → fault ≡ NotCertified reason → IsRefusalOf list certificate fault old_list old_certificate → IsFirstFailure list certificate reason
-refused_for list old_list certificate old_certificate fault reason is refusal = subst (IsFirstFailure list certificate) (same (sym refusal.told ∙ is)) refusal.first
+refused_for list old_list certificate old_certificate fault reason is refusal = subst (IsFirstFailure list certificate) (same (sym refusal.fault_is ∙ is)) refusal.first
   where
     same : NotCertified refusal.reason ≡ NotCertified reason → refusal.reason ≡ reason
     same e = (cc)

@@ -1,4 +1,4 @@
--- A file that was begun holds a front of the migrated plans.
+-- A file that was begun holds a prefix of the migrated plans.
 use Rattle.plan_pack.proofs.MigrateLemmas.{moved-stopped}
 use Rattle.plan_pack.proofs.migrating.migrate_to.Goals as goal
 

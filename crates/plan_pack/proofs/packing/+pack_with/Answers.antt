@@ -1,6 +1,6 @@
 -- The plan file of the plans so far is made, or that of one plan more, or the next patterns have no plan.
 use Rattle.std.proofs.Common.{◌-◌, List, None, Err, ℕ, drop, length, map, string_bytes, subst, take}
-use Rattle.byte_io.specs.Devices.{Told}
+use Rattle.byte_io.specs.Devices.{IfKnown}
 use Rattle.byte_io.specs.Sources.{AreShort, Created}
 use Rattle.plan_pack.specs.Asking.{Asks, asks_for_plans}
 use Rattle.plan_pack.specs.Packing.{MakesPack, answer_of}
@@ -22,7 +22,7 @@ returns-in-Ok-with_plan-clause-packed g t c =
     packs-of g.F.Output.ByteOut.written c.args.reading c.args.profile c.args.plans.items _ _ c.args.output.now _ _ r
     (names-first names c.name-item.result _ c.as_str.result.now c.in-len1-up.len_at_least c.name-item.is c.as_str.ensures.value)
     (pack-next g.F.Output.ByteOut.written c.args.reading c.args.profile c.args.plans.items c.as_str.result.now rest c.args.output.now _ _ _ c.in-Ok.plan r c.in-Ok.ensures.plan
-    (subst (λ ps. Told (g.F.Opener.sources c.plan_of.new.files) (g.F.Opener.sources c.pack_with.new.files)
+    (subst (λ ps. IfKnown (g.F.Opener.sources c.plan_of.new.files) (g.F.Opener.sources c.pack_with.new.files)
     (λ s l. AreShort s → Asks (answer_of r) (asks_for_plans c.args.reading rest (Created c.args.output.now) s) s l × MakesPack g.F.Output.ByteOut.written c.args.reading c.args.profile ps rest c.args.output.now s l r))
     c.in-Ok-with_plan.ensures c.pack_with.ensures.packed))
 

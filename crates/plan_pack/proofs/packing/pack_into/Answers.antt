@@ -1,4 +1,4 @@
--- A write that stops leaves a front of the plan file.
+-- A write that stops leaves a prefix of the plan file.
 use Rattle.std.proofs.Common.{refl}
 use Rattle.plan_pack.proofs.packing.pack_into.Goals as goal
 

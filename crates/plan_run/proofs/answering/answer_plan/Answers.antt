@@ -1,7 +1,7 @@
 -- The list is planned, or there is none.
 use Rattle.std.proofs.Common.{◌≡◌, List, ℕ, Result, Err, subst}
 use Rattle.std.specs.Prelude.{string_bytes}
-use Rattle.byte_io.specs.Devices.{Told}
+use Rattle.byte_io.specs.Devices.{IfKnown}
 use Rattle.byte_io.specs.Sources.{AreShort, after, ask_of, taken_by}
 use Rattle.lit_base.specs.Literals.{Literals}
 use Rattle.plan_pack.specs.Taken.{TakesList}
@@ -25,4 +25,4 @@ returns-in-Err-clause-answer g c =
     let reading = c.args.request.now.reading in
     let stop = c.in-Err.stop in
     plan-stopped reading c.args.request.now.profile (string_bytes c.args.request.now.file) known left stop (g.W.ByteOut.written c.args.out.now)
-    (subst (λ (name : List ℕ). Told known left (λ s l. AreShort s → (l ≡ after (ask_of name) s) × TakesList reading name (taken_by (ask_of name) s) (stopped stop))) c.as_str.ensures.value c.in-Err.ensures.list)
+    (subst (λ (name : List ℕ). IfKnown known left (λ s l. AreShort s → (l ≡ after (ask_of name) s) × TakesList reading name (taken_by (ask_of name) s) (stopped stop))) c.as_str.ensures.value c.in-Err.ensures.list)

@@ -11,4 +11,4 @@ returns-in-Ok-clause-answer g c =
 
 pub returns-in-Err-clause-answer : goal.returns-in-Err-clause-answer
 returns-in-Err-clause-answer g c =
-    rw c.as_str.ensures.value at (explain-stopped c.args.request.now.reading c.args.request.now.profile c.args.request.now.svg c.as_str.result.now _ _ c.in-Err.stop c.tell_stop.result _ _ c.in-Err.ensures.list c.in-Err.ensures.named c.tell_stop.ensures.answer)
+    rw c.as_str.ensures.value at (explain-stopped c.args.request.now.reading c.args.request.now.profile c.args.request.now.svg c.as_str.result.now _ _ c.in-Err.stop c.report_stop.result _ _ c.in-Err.ensures.list c.in-Err.ensures.named c.report_stop.ensures.answer)

@@ -10,4 +10,4 @@ returns-in-Ok-clause-answer g c =
 
 pub returns-in-Err-clause-answer : goal.returns-in-Err-clause-answer
 returns-in-Err-clause-answer g c =
-    plan-at-wrong (IsPlanExplained c.args.svg) c.args.file.now c.args.place _ _ c.in-Err.stop c.tell_stop.result _ _ c.in-Err.ensures.plans c.tell_stop.ensures.answer
+    plan-at-wrong (IsPlanExplained c.args.svg) c.args.file.now c.args.place _ _ c.in-Err.stop c.report_stop.result _ _ c.in-Err.ensures.plans c.report_stop.ensures.answer

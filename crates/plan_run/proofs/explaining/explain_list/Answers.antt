@@ -1,9 +1,9 @@
 -- The first of the list's cheapest cuts is explained.
 use Rattle.std.proofs.Common.{◌≡◌, ap, ◌∙◌}
 use Rattle.lit_cert.specs.Certificates.{CertificateParts}
-use Rattle.plan_run.specs.Answers.{Explained, IsExplainAnswer, explained, told}
+use Rattle.plan_run.specs.Answers.{Explained, IsExplainAnswer, explained, printed}
 use Rattle.plan_run.specs.declared.status.Status.TheVariants.{Done}
-use Rattle.plan_run.proofs.AnswerLemmas.{tells-text}
+use Rattle.plan_run.proofs.AnswerLemmas.{reports-text}
 use Rattle.plan_run.proofs.explaining.explain_list.Goals as goal
 
 pub returns-in_ok-text-in-Ok-clause-answer : goal.returns-in_ok-text-in-Ok-clause-answer
@@ -14,6 +14,6 @@ returns-in_ok-text-in-Ok-clause-answer g c = λ patterns placed.
     let seen : c.certificate.inside.ends.items ≡ ends = ap (λ (p : CertificateParts). p.ends) c.certificate.view_is in
     let text : c.as_slice.result.now ≡ explained c.args.profile c.args.svg list ends places =
     c.as_slice.ensures.value ∙ (c.in_ok-text-in-Ok.ensures ∙ ap (λ es. explained c.args.profile c.args.svg list es places) seen) in
-    tells-text (IsExplainAnswer c.args.profile list c.args.svg patterns) c.as_slice.result.now Done c.tell_bytes.result _ _
-    (Explained (record { ends = ends; places = places; first = c.in-Ok.ensures.first; placed = placed; is = ap (λ t. told t Done) text }))
-    c.tell_bytes.ensures.text
+    reports-text (IsExplainAnswer c.args.profile list c.args.svg patterns) c.as_slice.result.now Done c.report_bytes.result _ _
+    (Explained (record { ends = ends; places = places; first = c.in-Ok.ensures.first; placed = placed; is = ap (λ t. printed t Done) text }))
+    c.report_bytes.ensures.text

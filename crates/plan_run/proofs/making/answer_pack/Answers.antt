@@ -2,17 +2,17 @@
 use Rattle.std.proofs.Common.{List, ℕ, Option, Result, Err, subst}
 use Rattle.std.specs.Global.{Global}
 use Rattle.std.specs.Prelude.{String, map, string_bytes}
-use Rattle.byte_io.specs.Devices.{Told}
+use Rattle.byte_io.specs.Devices.{IfKnown}
 use Rattle.byte_io.specs.Sources.{AreShort}
 use Rattle.plan_pack.specs.Asking.{Asks, pack_asks}
 use Rattle.plan_pack.specs.Packing.{PacksFiles}
 use Rattle.plan_pack.specs.declared.stop.Stop.{Stop}
-use Rattle.plan_run.proofs.PackLemmas.{pack-told, pack-untold}
+use Rattle.plan_run.proofs.PackLemmas.{pack-printed, pack-unwritten}
 use Rattle.plan_run.proofs.making.answer_pack.Goals as goal
 
 pub returns-in-Ok-clause-answer : goal.returns-in-Ok-clause-answer
 returns-in-Ok-clause-answer g c =
-    rw (c.names-names.ensures.value, c.as_str-output.ensures.value) at (pack-told g.F.Output.ByteOut.written g.F.Output.ByteOut.has_failed c.args.request.now.reading c.args.request.now.profile (map string_bytes c.names-names.result.now) c.as_str-output.result.now
+    rw (c.names-names.ensures.value, c.as_str-output.ensures.value) at (pack-printed g.F.Output.ByteOut.written g.F.Output.ByteOut.has_failed c.args.request.now.reading c.args.request.now.profile (map string_bytes c.names-names.result.now) c.as_str-output.result.now
     (g.F.Opener.sources c.args.files.now) (g.F.Opener.sources c.pack.new.files) c.in-Ok.field-0 c.in-Ok.ensures.flag c.in-Ok.ensures.packed)
 
 -- no file was made, or it is not whole
@@ -31,6 +31,6 @@ returns-clause-answer g c =
     let written = g.F.Output.ByteOut.written in
     let stopped = c.in-Err.unmade in
     let output = string_bytes c.args.request.now.output in
-    let named = subst (λ (to : List ℕ). Told known left (λ s l. AreShort s → Asks (stopped_with stopped) (pack_asks reading (map string_bytes c.names-names.result.now) to s) s l × PacksFiles written reading profile (map string_bytes c.names-names.result.now) to s l (cut stopped))) c.as_str-output.ensures.value c.in-Err.ensures.packed in
-    pack-untold written g.F.Output.ByteOut.has_failed reading profile (map string_bytes c.args.request.now.files.names.items) output known left stopped c.stop_of.result c.stop_of.ensures c.in-Err.ensures.broken
-    (subst (λ (from : List (String Global)). Told known left (λ s l. AreShort s → Asks (stopped_with stopped) (pack_asks reading (map string_bytes from) output s) s l × PacksFiles written reading profile (map string_bytes from) output s l (cut stopped))) c.names-names.ensures.value named)
+    let named = subst (λ (to : List ℕ). IfKnown known left (λ s l. AreShort s → Asks (stopped_with stopped) (pack_asks reading (map string_bytes c.names-names.result.now) to s) s l × PacksFiles written reading profile (map string_bytes c.names-names.result.now) to s l (cut stopped))) c.as_str-output.ensures.value c.in-Err.ensures.packed in
+    pack-unwritten written g.F.Output.ByteOut.has_failed reading profile (map string_bytes c.args.request.now.files.names.items) output known left stopped c.stop_of.result c.stop_of.ensures c.in-Err.ensures.broken
+    (subst (λ (from : List (String Global)). IfKnown known left (λ s l. AreShort s → Asks (stopped_with stopped) (pack_asks reading (map string_bytes from) output s) s l × PacksFiles written reading profile (map string_bytes from) output s l (cut stopped))) c.names-names.ensures.value named)

@@ -1,7 +1,7 @@
 -- The input is searched by the file's plan, or there is none.
 use Rattle.std.proofs.Common.{◌≡◌, List, ℕ, Result, Err, subst}
 use Rattle.std.specs.Prelude.{string_bytes}
-use Rattle.byte_io.specs.Devices.{Told}
+use Rattle.byte_io.specs.Devices.{IfKnown}
 use Rattle.byte_io.specs.Sources.{AreShort, after, ask_of, taken_by}
 use Rattle.lit_plan.specs.Plans.{Plan}
 use Rattle.lit_base.specs.declared.profile.Profile.TheVariants.{Eight}
@@ -27,4 +27,4 @@ returns-in-Err-clause-answer g c =
     let reading = c.args.scan.now.reading in
     let stop = c.in-Err.stop in
     scan-stopped reading c.args.scan.now.count c.args.scan.now.names (string_bytes c.args.scan.now.file) (string_bytes c.args.scan.now.input) known left stop (g.W.ByteOut.written c.args.out.now)
-    (subst (λ (name : List ℕ). Told known left (λ s l. AreShort s → (l ≡ after (ask_of name) s) × TakesPlan reading Eight name (taken_by (ask_of name) s) (stopped stop))) c.as_str.ensures.value c.in-Err.ensures.plan)
+    (subst (λ (name : List ℕ). IfKnown known left (λ s l. AreShort s → (l ≡ after (ask_of name) s) × TakesPlan reading Eight name (taken_by (ask_of name) s) (stopped stop))) c.as_str.ensures.value c.in-Err.ensures.plan)

@@ -2,7 +2,7 @@
 use Rattle.std.proofs.Common.{◌≡◌, List, ℕ, Result, Err, subst}
 use Rattle.std.specs.Global.{Vec}
 use Rattle.std.specs.Prelude.{string_bytes}
-use Rattle.byte_io.specs.Devices.{Told}
+use Rattle.byte_io.specs.Devices.{IfKnown}
 use Rattle.byte_io.specs.Sources.{AreShort, after, ask_of, taken_by}
 use Rattle.plan_pack.specs.Taken.{TakesText}
 use Rattle.plan_pack.specs.declared.stop.Stop.{Stop}
@@ -24,4 +24,4 @@ returns-in-Err-clause-answer g c =
     let left = g.F.Opener.sources c.text_of.new.files in
     let stop = c.in-Err.stop in
     input-stopped c.args.compiled.now.literals c.args.scan.now.count c.args.scan.now.names (string_bytes c.args.scan.now.input) known left stop (g.W.ByteOut.written c.args.out.now)
-    (subst (λ (name : List ℕ). Told known left (λ s l. AreShort s → (l ≡ after (ask_of name) s) × TakesText name (taken_by (ask_of name) s) (stopped stop))) c.as_str.ensures.value c.in-Err.ensures.text)
+    (subst (λ (name : List ℕ). IfKnown known left (λ s l. AreShort s → (l ≡ after (ask_of name) s) × TakesText name (taken_by (ask_of name) s) (stopped stop))) c.as_str.ensures.value c.in-Err.ensures.text)

@@ -2,13 +2,13 @@
 use Rattle.std.proofs.Common.{◌≡◌, ◌++◌, codes, ap, ◌∙◌, slice_index}
 use Rattle.lit_base.specs.Costs.{run_cost}
 use Rattle.lit_base.specs.Literals.{lengths}
-use Rattle.plan_view.specs.Drawings.{numbers_told, said}
+use Rattle.plan_view.specs.Drawings.{numbers_text, said}
 use Rattle.plan_view.specs.Rows.{percent, total_of}
 use Rattle.plan_view.proofs.Appends.{five_appended}
 use Rattle.plan_view.proofs.drawing.push_numbers.Goals as goal
 
 pub returns : goal.returns
-unfolding numbers_told
+unfolding numbers_text
 returns c =
     let l = c.args.view.list.now in
     let cost = run_cost (lengths l) c.args.start c.args.end in

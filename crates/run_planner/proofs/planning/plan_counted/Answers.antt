@@ -58,7 +58,7 @@ returns-clause-count g c d digits =
 pub returns-clause-only : goal.returns-clause-only
 returns-clause-only g c =
     plan-one (g.M.Meter.prices c.args.meter.now) c.args.profile c.args.n _ (record {
-      told = refl;
+      for_profile = refl;
       first = returns-clause-first g c;
       cost = returns-clause-cost g c;
       potentials = returns-clause-potentials g c;

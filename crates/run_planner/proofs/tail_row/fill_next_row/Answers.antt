@@ -11,25 +11,25 @@ fill_row-requires-clause-small g c =
     let n = c.args.n in
     let done = c.split_at_mut-done.result.0.now in
     let later = c.split_at.result.1.now in
-    let front = subst (λ w. done ≡ take (c.args.r * w) c.args.rows.now) c.from-width.ensures c.split_at_mut-done.ensures.front in
+    let prefix = subst (λ w. done ≡ take (c.args.r * w) c.args.rows.now) c.from-width.ensures c.split_at_mut-done.ensures.front in
     let back = subst (λ w. later ≡ drop ((c.args.r - 1) * w) done) c.from-width.ensures c.split_at.ensures.back in
     let small = subst (λ m. AreSmall (g.M.Meter.prices c.args.meter.now) m) c.requires.size (g.met.M.Meter.small c.args.meter.now) in
-    later-small (g.M.Meter.prices c.args.meter.now) n c.args.r c.args.rows.now done later c.requires.from_one (omega (arith, c.requires.within)) front back c.requires.filled small
+    later-small (g.M.Meter.prices c.args.meter.now) n c.args.r c.args.rows.now done later c.requires.from_one (omega (arith, c.requires.within)) prefix back c.requires.filled small
 
 pub fill_row-requires-clause-suffice : goal.fill_row-requires-clause-suffice
 fill_row-requires-clause-suffice g c p low inner q past le =
     let done = c.split_at_mut-done.result.0.now in
     let later = c.split_at.result.1.now in
-    let front = subst (λ w. done ≡ take (c.args.r * w) c.args.rows.now) c.from-width.ensures c.split_at_mut-done.ensures.front in
+    let prefix = subst (λ w. done ≡ take (c.args.r * w) c.args.rows.now) c.from-width.ensures c.split_at_mut-done.ensures.front in
     let back = subst (λ w. later ≡ drop ((c.args.r - 1) * w) done) c.from-width.ensures c.split_at.ensures.back in
-    let size : length later ≡ c.args.n = later-length c.args.n c.args.r c.args.rows.now done later c.requires.from_one (omega (arith, c.requires.within)) front back in
+    let size : length later ≡ c.args.n = later-length c.args.n c.args.r c.args.rows.now done later c.requires.from_one (omega (arith, c.requires.within)) prefix back in
     (q, omega (arith, past), omega (arith, le, size), past, omega arith)
 
 pub returns-clause-filled : goal.returns-clause-filled
 returns-clause-filled g c =
     let done = c.split_at_mut-done.result.0.now in
     let later = c.split_at.result.1.now in
-    let front = subst (λ w. done ≡ take (c.args.r * w) c.args.rows.now) c.from-width.ensures c.split_at_mut-done.ensures.front in
+    let prefix = subst (λ w. done ≡ take (c.args.r * w) c.args.rows.now) c.from-width.ensures c.split_at_mut-done.ensures.front in
     let back = subst (λ w. later ≡ drop ((c.args.r - 1) * w) done) c.from-width.ensures c.split_at.ensures.back in
-    let size : length later ≡ c.args.n = later-length c.args.n c.args.r c.args.rows.now done later c.requires.from_one (omega (arith, c.requires.within)) front back in
-    rows_next (g.M.Meter.prices c.args.meter.now) c.args.n c.args.r c.args.rows.now done later c.fill_row.new.row c.requires.from_one (omega (arith, c.requires.within)) front back c.requires.filled (λ p h. subst (λ n. IsLeastSplit (g.M.Meter.prices c.args.meter.now) (slice_index later) n p (slice_index c.fill_row.new.row p)) size (c.fill_row.ensures.filled p (omega arith) h))
+    let size : length later ≡ c.args.n = later-length c.args.n c.args.r c.args.rows.now done later c.requires.from_one (omega (arith, c.requires.within)) prefix back in
+    rows_next (g.M.Meter.prices c.args.meter.now) c.args.n c.args.r c.args.rows.now done later c.fill_row.new.row c.requires.from_one (omega (arith, c.requires.within)) prefix back c.requires.filled (λ p h. subst (λ n. IsLeastSplit (g.M.Meter.prices c.args.meter.now) (slice_index later) n p (slice_index c.fill_row.new.row p)) size (c.fill_row.ensures.filled p (omega arith) h))

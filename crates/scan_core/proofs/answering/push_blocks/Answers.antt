@@ -6,7 +6,7 @@ use Rattle.scan_wire.specs.declared.message.Reply.{Reply}
 use Rattle.scan_wire.specs.declared.message.Reply.TheVariants as reply
 use Rattle.scan_wire.specs.declared.message.TheConstants.{MAX_HITS}
 use Rattle.scan_core.specs.Blocks.{AreBlocks}
-use Rattle.scan_core.proofs.BlockLemmas.{blocks_go_on, blocks_told}
+use Rattle.scan_core.proofs.BlockLemmas.{blocks_go_on, blocks_replied}
 use Rattle.scan_core.proofs.answering.push_blocks.Goals as goal
 
 -- a list of no elements is empty
@@ -21,15 +21,15 @@ loop-rest-preserved c =
     let rest = c.loop-rest.rest.now in
     let block = c.in_ok-hits.hits.items in
     let others = c.split_at.result.1.now in
-    let told : Reply = reply.Hits c.args.stream c.in_ok-hits.hits in
+    let replied : Reply = reply.Hits c.args.stream c.in_ok-hits.hits in
     let some : rest ≢ [] = λ e. false≢true (sym c.loop-rest-test.true ∙ c.is_empty.ensures ∙ ap (λ (r : List (ℕ × ℕ)). nat_eq (length r) 0) e) in
-    let front : block ≡ take MAX_HITS rest =
+    let prefix : block ≡ take MAX_HITS rest =
     c.in_ok-hits.ensures.items ∙ c.split_at.ensures.front ∙ ap (λ n. take n rest) c.min.ensures ∙ take_min MAX_HITS rest in
     let back : others ≡ drop MAX_HITS rest = c.split_at.ensures.back ∙ ap (λ n. drop n rest) c.min.ensures ∙ drop_min MAX_HITS rest in (
       inv.0 ++ block ∷ [],
-      blocks_told c.args.stream first c.loop-rest.out.items c.push.new.self.items inv.0 block told inv.1 c.in_ok-push.ensures.items refl,
-      blocks_go_on MAX_HITS c.args.hits.now rest others block inv.0 some front back inv.2,
-      (inv.3.0 ++ told ∷ [], c.in_ok-push.ensures.items ∙ ap (λ (rs : List Reply). rs ++ told ∷ []) inv.3.1 ∙ append_assoc first inv.3.0 (told ∷ [])),
+      blocks_replied c.args.stream first c.loop-rest.out.items c.push.new.self.items inv.0 block replied inv.1 c.in_ok-push.ensures.items refl,
+      blocks_go_on MAX_HITS c.args.hits.now rest others block inv.0 some prefix back inv.2,
+      (inv.3.0 ++ replied ∷ [], c.in_ok-push.ensures.items ∙ ap (λ (rs : List Reply). rs ++ replied ∷ []) inv.3.1 ∙ append_assoc first inv.3.0 (replied ∷ [])),
     )
 
 pub returns-clause-ok : goal.returns-clause-ok

@@ -2,7 +2,7 @@ use Rattle.std.proofs.Common.{◌≡◌, inl, inr, sym, ap, ◌∙◌, subst, ar
 use Rattle.std.specs.List.{slice_get}
 use Rattle.std.proofs.lemmas.Bool.{cases_lt}
 use Rattle.std.proofs.lemmas.Option.{same_Some, slice_get_within}
-use Rattle.plan_store.specs.Tickets.{Told}
+use Rattle.plan_store.specs.Tickets.{TicketParts}
 use Rattle.scan_core.specs.Steps.{IsSound}
 use Rattle.scan_core.specs.Together.{tickets_of}
 use Rattle.scan_core.proofs.together.show_sound.Goals as goal
@@ -16,7 +16,7 @@ loop-place-preserved c i ticket before at =
       | inr here ↦
           let is : i ≡ c.loop-place.place = omega arith in
           let equal : shown ≡ ticket = same_Some shown ticket (sym c.ticket_at.ensures.at ∙ ap (slice_get tickets) (sym is) ∙ at) in
-          subst (λ (t : Told). IsSound t.plan) equal c.shows_sound.ensures
+          subst (λ (t : TicketParts). IsSound t.plan) equal c.shows_sound.ensures
     ]
 
 pub returns : goal.returns

@@ -9,7 +9,7 @@ returns-clause-ends g c = record {
   ends = c.serve_loaded.ensures.ends.1;
   unread = c.serve_loaded.ensures.read_fault;
   unwritten = c.serve_loaded.ensures.write_fault;
-  told = c.from.ensures;
+  reported = c.from.ensures;
 }
 
 pub returns-clause-unread : goal.returns-clause-unread

@@ -3,7 +3,7 @@ use Rattle.scan_wire.specs.Messages.{Publish, reply_parts, texts_of}
 use Rattle.scan_serve.proofs.SendLemmas.{err_weaker}
 use Rattle.scan_run.specs.Beside.{IsEventBeside}
 use Rattle.scan_run.proofs.FeedLemmas.{answered_one, stopped_one}
-use Rattle.scan_run.proofs.TellLemmas.{ok_weaker}
+use Rattle.scan_run.proofs.SendingLemmas.{ok_weaker}
 use Rattle.scan_run.proofs.answering.answer_publish.Goals as goal
 
 pub returns-clause-ok : goal.returns-clause-ok

@@ -3,7 +3,7 @@ use Rattle.scan_serve.proofs.SendLemmas.{err_weaker}
 use Rattle.scan_core.specs.Sessions.{IsEvent}
 use Rattle.scan_core.proofs.StepLemmas.{event_refused}
 use Rattle.scan_run.proofs.FeedLemmas.{answered_one, stopped_one}
-use Rattle.scan_run.proofs.TellLemmas.{ok_weaker}
+use Rattle.scan_run.proofs.SendingLemmas.{ok_weaker}
 use Rattle.scan_run.proofs.feeding.answer_feed.Goals as goal
 
 pub returns-in-Err-clause-ok : goal.returns-in-Err-clause-ok

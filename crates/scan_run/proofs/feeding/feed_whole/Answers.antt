@@ -6,10 +6,10 @@ use Rattle.scan_wire.specs.Frames.{replies_text}
 use Rattle.scan_serve.specs.Sending.{Sends, SendsLess}
 use Rattle.scan_serve.proofs.SendLemmas.{err_weaker}
 use Rattle.scan_core.specs.Steps.{fed_replies}
-use Rattle.scan_core.proofs.FrontLemmas.{feeding_goes_on}
+use Rattle.scan_core.proofs.PrefixLemmas.{feeding_goes_on}
 use Rattle.scan_run.specs.Feeding.{last_block}
 use Rattle.scan_run.proofs.FeedLemmas.{answered_whole, fed_none, fed_on, feeds_some, stopped_feeding, stopped_last}
-use Rattle.scan_run.proofs.TellLemmas.{ok_weaker, on_err}
+use Rattle.scan_run.proofs.SendingLemmas.{ok_weaker, on_err}
 use Rattle.scan_run.proofs.feeding.feed_whole.Goals as goal
 
 pub loop-rest-init : goal.loop-rest-init
@@ -48,17 +48,17 @@ returns-clause-ok g c =
     let rest = c.loop-rest.rest.now in
     let none : length rest ≡ 0 = eqb-true (length rest) 0 (sym c.is_empty.ensures ∙ c.loop-rest-test.false) in
     let hits = c.loop-rest.hits.items in
-    ok_weaker c.tell_last.result
+    ok_weaker c.send_last.result
     (λ sent. answered_whole c.args.session.now c.loop-rest.session c.args.stream c.args.piece.now rest c.args.place hits _ _ _ _ _ _ c.requires none c.loop-rest.invariant.fed
-    (subst (λ hs. Sends (g.W.ByteOut.written c.loop-rest.out) (g.W.ByteOut.written c.tell_last.new.out) c.loop-rest.outbox c.tell_last.new.outbox (replies_text (fed_replies c.args.stream (last_block hs) c.args.place))) c.deref.ensures.value sent))
-    c.tell_last.ensures.ok
+    (subst (λ hs. Sends (g.W.ByteOut.written c.loop-rest.out) (g.W.ByteOut.written c.send_last.new.out) c.loop-rest.outbox c.send_last.new.outbox (replies_text (fed_replies c.args.stream (last_block hs) c.args.place))) c.deref.ensures.value sent))
+    c.send_last.ensures.ok
 
 pub returns-clause-err : goal.returns-clause-err
 returns-clause-err g c =
     let rest = c.loop-rest.rest.now in
     let none : length rest ≡ 0 = eqb-true (length rest) 0 (sym c.is_empty.ensures ∙ c.loop-rest-test.false) in
     let hits = c.loop-rest.hits.items in
-    err_weaker c.tell_last.result
+    err_weaker c.send_last.result
     (λ sent. stopped_last c.args.session.now c.loop-rest.session c.args.stream c.args.piece.now rest c.args.place hits _ _ _ _ _ c.requires none c.loop-rest.invariant.fed
-    (subst (λ hs. SendsLess (g.W.ByteOut.written c.loop-rest.out) (g.W.ByteOut.written c.tell_last.new.out) c.loop-rest.outbox (replies_text (fed_replies c.args.stream (last_block hs) c.args.place))) c.deref.ensures.value sent))
-    c.tell_last.ensures.err
+    (subst (λ hs. SendsLess (g.W.ByteOut.written c.loop-rest.out) (g.W.ByteOut.written c.send_last.new.out) c.loop-rest.outbox (replies_text (fed_replies c.args.stream (last_block hs) c.args.place))) c.deref.ensures.value sent))
+    c.send_last.ensures.err

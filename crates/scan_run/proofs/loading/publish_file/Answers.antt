@@ -18,4 +18,4 @@ returns-in_err-plans-clause-judged g c =
 
 pub returns-clause-judged : goal.returns-clause-judged
 returns-clause-judged g c =
-    judges-read (g.I.ByteIn.coming c.args.input.now) c.in_ok-plans.plans c.publish_plans.ensures.front.more c.publish_plans.result c.in_ok-plans.ensures.exact c.in_ok-plans.ensures.ending c.publish_plans.ensures.front.left
+    judges-read (g.I.ByteIn.coming c.args.input.now) c.in_ok-plans.plans c.publish_plans.ensures.prefix.more c.publish_plans.result c.in_ok-plans.ensures.exact c.in_ok-plans.ensures.ending c.publish_plans.ensures.prefix.left

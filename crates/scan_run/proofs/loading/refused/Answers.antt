@@ -1,6 +1,6 @@
--- A front of the message was written.
+-- A prefix of the message was written.
 use Rattle.std.proofs.Common.{◌≡◌, ℕ, List, ◌++◌, codes, refl, subst}
-use Rattle.byte_io.specs.Transfers.{AppendsPrefix}
+use Rattle.byte_io.specs.Transfers.{AppendsPart}
 use Rattle.scan_run.specs.Loading.{Cut, message_on}
 use Rattle.scan_run.proofs.loading.refused.Goals as goal
 use Rattle.scan_run.proofs.loading.refused.Goals.{in-OutOfMemory, in-BadPlanFile, in-ReadFault}
@@ -13,4 +13,4 @@ returns-in-Err-clause-said g c =
       | in-BadPlanFile w ↦ rw (w.in-BadPlanFile.is, c.as_bytes.ensures.value, c.as_bytes-2.ensures.value, w.reason-is) refl
       | in-ReadFault w ↦ rw (w.in-ReadFault.is, c.as_bytes.ensures.value, c.as_bytes-2.ensures.value, w.reason-is) refl
     ] in
-    Cut refl (subst (λ (t : List ℕ). AppendsPrefix (g.E.ByteOut.written c.args.err.now) (g.E.ByteOut.written c.say.new.err) t) text c.in-Err.ensures.err)
+    Cut refl (subst (λ (t : List ℕ). AppendsPart (g.E.ByteOut.written c.args.err.now) (g.E.ByteOut.written c.say.new.err) t) text c.in-Err.ensures.err)

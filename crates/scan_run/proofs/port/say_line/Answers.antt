@@ -1,7 +1,7 @@
 -- The digits are those of the port.
 use Rattle.std.proofs.Common.{◌≡◌, ◌∙◌, ◌++◌, ℕ, List, OnErr, OnOk, codes, decimal, subst}
 use Rattle.std.specs.Io.KnownBytes.{Appends}
-use Rattle.byte_io.specs.Transfers.{AppendsPrefix}
+use Rattle.byte_io.specs.Transfers.{AppendsPart}
 use Rattle.scan_run.proofs.port.say_line.Goals as goal
 
 pub returns-clause-ok : goal.returns-clause-ok
@@ -12,4 +12,4 @@ returns-clause-ok g c =
 pub returns-clause-err : goal.returns-clause-err
 returns-clause-err g c =
     let text : c.as_bytes.result.now ≡ decimal c.args.port = c.as_bytes.ensures.value ∙ c.format.ensures.text in
-    subst (λ (t : List ℕ). OnErr c.say.result (AppendsPrefix (g.E.ByteOut.written c.args.err.now) (g.E.ByteOut.written c.say.new.err) (codes "scand: port " ++ (t ++ codes "\n")))) text c.say.ensures.err
+    subst (λ (t : List ℕ). OnErr c.say.result (AppendsPart (g.E.ByteOut.written c.args.err.now) (g.E.ByteOut.written c.say.new.err) (codes "scand: port " ++ (t ++ codes "\n")))) text c.say.ensures.err

@@ -12,4 +12,4 @@ returns-clause-ends g c =
 pub returns-clause-bytes : goal.returns-clause-bytes
 returns-clause-bytes g c =
     let ends = subst (λ (s : Serving). EndsAs IsEvent s c.serve_session-ended.result.1 (g.I.ByteIn.coming c.args.input.now) (g.I.ByteIn.coming c.serve_session-ended.new.input) (g.O.ByteOut.written c.args.out.now) (g.O.ByteOut.written c.serve_session-ended.new.out) [] c.serve_session-ended.result.0) c.new.ensures c.serve_session-ended.ensures.ends in
-    ends_seen (fresh c.args.store.now) c.serve_session-ended.result.1 new_session _ _ _ _ [] c.serve_session-ended.result.0 record { told = refl; streams = tt } ends
+    ends_seen (fresh c.args.store.now) c.serve_session-ended.result.1 new_session _ _ _ _ [] c.serve_session-ended.result.0 record { published_plans = refl; streams = tt } ends

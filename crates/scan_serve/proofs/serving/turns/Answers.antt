@@ -1,6 +1,6 @@
 use Rattle.std.proofs.Common.{◌∙◌, arith, refl}
 use Rattle.std.proofs.lemmas.Result.{err_from_is_err_and}
-use Rattle.scan_serve.proofs.ServeLemmas.{has_no_end, served_then_ends, served_then_front, serving_none, serving_then}
+use Rattle.scan_serve.proofs.ServeLemmas.{has_no_end, served_then_ends, served_then_prefix, serving_none, serving_then}
 use Rattle.scan_serve.proofs.serving.turns.Goals as goal
 
 pub loop-turn-init : goal.loop-turn-init
@@ -15,7 +15,7 @@ loop-turn-init g c = record {
 pub returns-in_err-ended-clause-stop : goal.returns-in_err-ended-clause-stop
 returns-in_err-ended-clause-stop g c =
     let p = err_from_is_err_and c.from_residual.result c.from_residual.ensures.1 in
-    rw p.1 (served_then_front g.S.Answer.step c.args.session.now c.loop-turn.session (g.R.ByteIn.coming c.args.input.now) (g.R.ByteIn.coming c.loop-turn.input) (g.R.ByteIn.coming c.turn.new.input) (g.W.ByteOut.written c.args.out.now) (g.W.ByteOut.written c.loop-turn.out) (g.W.ByteOut.written c.turn.new.out) c.args.window.now c.loop-turn.window c.loop-turn.invariant.goes.served c.in_err-ended.ensures.stop)
+    rw p.1 (served_then_prefix g.S.Answer.step c.args.session.now c.loop-turn.session (g.R.ByteIn.coming c.args.input.now) (g.R.ByteIn.coming c.loop-turn.input) (g.R.ByteIn.coming c.turn.new.input) (g.W.ByteOut.written c.args.out.now) (g.W.ByteOut.written c.loop-turn.out) (g.W.ByteOut.written c.turn.new.out) c.args.window.now c.loop-turn.window c.loop-turn.invariant.goes.served c.in_err-ended.ensures.stop)
 
 pub returns-in-Some-clause-ends : goal.returns-in-Some-clause-ends
 returns-in-Some-clause-ends g c =

@@ -5,10 +5,10 @@ use Rattle.scan_wire.specs.Frames.{FrameParts}
 use Rattle.scan_wire.specs.Reading.{StartsWithFrame, parts_of}
 use Rattle.scan_wire.proofs.frames.next.Goals as goal
 
--- a list at the front, from its frame
+-- a list at the start, from its frame
 begins_list : (text : List ℕ) (f : FrameParts) → StartsWithFrame text f → TakesMemory f → BeginsWithList text
 begins_list text f s takes = record {
-  front = record { frame = f; rest = drop (9 + length f.payload) text; is_frame = s.is_frame; text_is = s.text_is };
+  prefix = record { frame = f; rest = drop (9 + length f.payload) text; is_frame = s.is_frame; text_is = s.text_is };
   takes = takes;
 }
 

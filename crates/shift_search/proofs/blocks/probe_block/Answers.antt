@@ -36,13 +36,13 @@ loop-group-preserved g c =
           let old = before.block b are first in
           let probes = c.four_probes-now.ensures b are in
           let rules = c.with_those_before-ruled.ensures b text here probes old.1 in
-          let told : (more ≡ 1) ⊎ NoEndUpTo b.literals text (here - 1) (here + 31) = elim counted.1.0 [
+          let known : (more ≡ 1) ⊎ NoEndUpTo b.literals text (here - 1) (here + 31) = elim counted.1.0 [
             | inl one ↦ inl one
             | inr gone ↦ inr (none_of_group b text here four (omega (arith, c.requires.eight)) rules (λ i below. c.lacking.ensures.full i below (ap (λ m. bit_at m i) gone ∙ bit_at-zero i)))
           ] in
           let next : here + 8 + 8 * 3 ≡ c.args.at + 32 * (group + 1) = omega arith in
           let made : IsBlock b text c.args.at (group + 1) (put_chunk (4 * group) c.loop-group.words four) (slice_set c.loop-group.groups count group) (count + more) =
-          one_more b text c.args.at group count more c.loop-group.words four c.loop-group.groups (omega (arith, c.with_those_before-ruled.auto)) (omega (arith, before.words, c.loop-group-test.true)) (omega (arith, before.few, before.groups, c.loop-group-test.true)) upto rules told old.0 in (
+          one_more b text c.args.at group count more c.loop-group.words four c.loop-group.groups (omega (arith, c.with_those_before-ruled.auto)) (omega (arith, before.words, c.loop-group-test.true)) (omega (arith, before.few, before.groups, c.loop-group-test.true)) upto rules known old.0 in (
             subst (λ w. IsBlock b text c.args.at (group + 1) w (slice_set c.loop-group.groups count group) c.if-lacking-eq0.count) (sym c.store_words.ensures)
                 (subst (λ n. IsBlock b text c.args.at (group + 1) (put_chunk (4 * group) c.loop-group.words four) (slice_set c.loop-group.groups count group) n) counted.0 made),
             subst (λ p. RulesOut b text p (slice_index c.four_probes-now.result.after 3)) next (probes.after 3 (omega arith)),

@@ -2,7 +2,7 @@
 use Rattle.std.proofs.Common.{◌≡◌, ◌<◌, [], length, slice_index, inl, inr, ap, ◌∙◌, subst, arith, below_more}
 use Rattle.std.proofs.lemmas.List.{get_or_read}
 use Rattle.lit_base.specs.Literals.{literal_at}
-use Rattle.list_index.specs.Marks.{IsMarked}
+use Rattle.list_index.specs.HashBits.{IsMarked}
 use Rattle.list_index.specs.Suffixes.{hash_of, suffix_key}
 use Rattle.shift_search.specs.ShiftOr.{bucket_at}
 use Rattle.shift_search.specs.declared.confirming.TheConstants.{CONFIRM_BITS}

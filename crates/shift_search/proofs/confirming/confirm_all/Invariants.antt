@@ -1,6 +1,6 @@
 use Rattle.std.proofs.Common.{◌≡◌, ℕ, ◌^◌, ◌<◌, ◌⊎◌, length, slice_index, vec_len}
 use Rattle.lit_base.specs.Literals.{literal_at}
-use Rattle.list_index.specs.Marks.{IsMarked}
+use Rattle.list_index.specs.HashBits.{IsMarked}
 use Rattle.shift_search.specs.ShiftOr.{IsConfirmOf, IsConfirmed, bucket_at}
 use Rattle.shift_search.specs.declared.confirming.TheConstants.{CONFIRM_BITS}
 use Rattle.shift_search.proofs.confirming.confirm_all.Given as goal

@@ -11,7 +11,7 @@ returns c is =
     let output = c.args.output.now in
     let others = c.args.others.now in
     let count = length others in
-    let front : take count output ≡ others = (slice_eq-Decides Decides-eqb (take count output) others c.eq.result c.eq.ensures).0 is in
+    let prefix : take count output ≡ others = (slice_eq-Decides Decides-eqb (take count output) others c.eq.result c.eq.ensures).0 is in
     sym (take_all (suc count) output (omega (arith, c.if-output-count-ne1.false, c.if-output-count.false)))
     ∙ take-suc output count 0 (omega (arith, c.if-output-count.false))
-    ∙ ap (λ xs. xs ++ get_or output count 0 ∷ []) front ∙ ap (λ x. others ++ x ∷ []) c.if-output-count-2.false
+    ∙ ap (λ xs. xs ++ get_or output count 0 ∷ []) prefix ∙ ap (λ x. others ++ x ∷ []) c.if-output-count-2.false

@@ -12,7 +12,7 @@ returns-clause-state c =
     let start : ℕ = c.saturating_sub-start.result in
     let count : ℕ = c.min.result in
     let first : ArePending w text from start (start + 1) 0 = subst (λ (s : ℕ). ArePending w text from s (s + 1) 0) (sym c.saturating_sub-start.ensures) (none_pending w text from c.within_law.ensures) in
-    let block : ArePending w text from start (start + count + 1) c.pending_after-marks.result = λ place end occurs later after before.
-    c.pending_after-marks.ensures from first place end occurs later after (omega (arith, before, c.min.ensures)) in
-    state_from w text from start count c.pending_after-marks.result (from - start) c.but_first-rest.result block (omega arith) (omega (arith, c.min.ensures, c.requires, c.saturating_sub-start.ensures))
-    (omega (arith, c.min.ensures, c.requires, c.saturating_sub-start.ensures)) (omega (arith, c.min.ensures)) c.but_first-rest.ensures.seen c.but_first-rest.ensures.count c.but_first-rest.ensures.marks
+    let block : ArePending w text from start (start + count + 1) c.pending_after-hash_bits.result = λ place end occurs later after before.
+    c.pending_after-hash_bits.ensures from first place end occurs later after (omega (arith, before, c.min.ensures)) in
+    state_from w text from start count c.pending_after-hash_bits.result (from - start) c.but_first-rest.result block (omega arith) (omega (arith, c.min.ensures, c.requires, c.saturating_sub-start.ensures))
+    (omega (arith, c.min.ensures, c.requires, c.saturating_sub-start.ensures)) (omega (arith, c.min.ensures)) c.but_first-rest.ensures.seen c.but_first-rest.ensures.count c.but_first-rest.ensures.hash_bits

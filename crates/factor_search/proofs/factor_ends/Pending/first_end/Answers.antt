@@ -22,7 +22,7 @@ first_marked-requires-clause-marked c = λ back near here.
     let end : ℕ = c.args.self.seen + 1 + back in
     let there : HasEnd c.args.factors.now.literals c.args.text.now end = subst (λ (l : Literals). HasEnd l c.args.text.now end) (sym c.requires.list) here in
     let place : back ≡ end - (c.args.self.seen + 1) = omega arith in
-    ap (bit_at c.args.self.marks) place ∙ pending_bit c.args.factors.now c.args.text.now c.args.self c.requires.state end (omega arith) (omega (arith, near)) there
+    ap (bit_at c.args.self.hash_bits) place ∙ pending_bit c.args.factors.now c.args.text.now c.args.self c.requires.state end (omega arith) (omega (arith, near)) there
 
 pub returns-clause-next : goal.returns-clause-next
 returns-clause-next c =

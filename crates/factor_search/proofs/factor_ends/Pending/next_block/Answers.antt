@@ -7,10 +7,10 @@ use Rattle.factor_search.proofs.factor_ends.Pending.next_block.Goals as goal
 use Rattle.factor_search.proofs.factor_ends.Pending.next_block.Goals.{After-but_first-rest}
 
 -- the pending ends after this block
-first : (c : After-but_first-rest) → ArePending c.args.factors.now c.args.text.now c.but_first-rest.result.seen c.but_first-rest.result.seen (c.but_first-rest.result.seen + 1) c.but_first-rest.result.marks
+first : (c : After-but_first-rest) → ArePending c.args.factors.now c.args.text.now c.but_first-rest.result.seen c.but_first-rest.result.seen (c.but_first-rest.result.seen + 1) c.but_first-rest.result.hash_bits
 first c =
     let rest : ArePendingEnds c.args.factors.now c.args.text.now c.but_first-rest.result = state_rest c.args.factors.now c.args.text.now c.args.self c.args.self.count c.but_first-rest.result c.requires.state (omega arith)
-    c.but_first-rest.ensures.seen c.but_first-rest.ensures.count c.but_first-rest.ensures.marks in
+    c.but_first-rest.ensures.seen c.but_first-rest.ensures.count c.but_first-rest.ensures.hash_bits in
     λ place end occurs later after before. rest.pending place end occurs later after (omega (arith, before))
 
 pub returns-clause-state : goal.returns-clause-state

@@ -9,7 +9,7 @@ use Rattle.factor_search.proofs.factor_ends.Pending.next_end.Goals as goal
 pub returns-in-Some-clause-state : goal.returns-in-Some-clause-state
 returns-in-Some-clause-state c =
     state_rest c.args.factors.now c.args.text.now c.blocks-2.state (c.in-Some.found.0 - c.blocks-2.state.seen) c.but_first.result c.blocks-2.invariant.state
-    (omega (arith, c.in-Some.ensures.within)) c.but_first.ensures.seen c.but_first.ensures.count c.but_first.ensures.marks
+    (omega (arith, c.in-Some.ensures.within)) c.but_first.ensures.seen c.but_first.ensures.count c.but_first.ensures.hash_bits
 
 pub returns-in-Some-clause-next : goal.returns-in-Some-clause-next
 returns-in-Some-clause-next c =

@@ -1,7 +1,7 @@
 -- The last bytes have their hash bits, and the masks fit them.
 use Rattle.std.proofs.Common.{length, ap, ◌∙◌, subst, arith}
 use Rattle.lit_base.specs.Literals.{Literals}
-use Rattle.nib_mask.specs.Fronts.{CoversFronts}
+use Rattle.nib_mask.specs.Prefixes.{CoversPrefixes}
 use Rattle.nib_mask.specs.Halves.{widened}
 use Rattle.factor_search.specs.Widths.{IsLeastWidth}
 use Rattle.factor_search.specs.Factors.{AreMarkedByFactors}
@@ -12,8 +12,8 @@ invariant_of-result c =
     let same = c.list-list.ensures ∙ c.deref.ensures in
     let count = ap (λ (l : Literals). length l.texts) same in (
       subst (λ (l : Literals). IsLeastWidth l c.least_width-least.result) same c.least_width-least.ensures,
-      subst (λ (l : Literals). AreMarkedByFactors l c.mark_all.new.offsets.items c.mark_all.new.marks.items (length l.texts)) same c.mark_all.ensures,
-      subst (λ (l : Literals). CoversFronts l (length l.texts) c.mark_all.new.offsets.items (widened c.masks_of-masks.result)) same c.masks_of-masks.ensures.masks,
+      subst (λ (l : Literals). AreMarkedByFactors l c.mark_all.new.offsets.items c.mark_all.new.hash_bits.items (length l.texts)) same c.mark_all.ensures,
+      subst (λ (l : Literals). CoversPrefixes l (length l.texts) c.mark_all.new.offsets.items (widened c.masks_of-masks.result)) same c.masks_of-masks.ensures.masks,
       omega (arith, c.masks_of-masks.ensures.buckets, c.in_ok-buckets.ensures.len, c.len-2.ensures.value, count),
       omega (arith, c.in_ok-counts.ensures),
     )

@@ -11,4 +11,4 @@ returns c =
     let len = c.tail_len.ensures ∙ sym (ap (λ (v : Joining). length v.tail) c.self.view_is) in
     ap (λ (xs : List ℕ). take (s.held + s.ahead - start) (drop start xs)) c.deref.ensures.value
     ∙ text_of s.carry s.held s.ahead c.tail_len.result s.room.items (omega (arith, s.room.ok.0, c.self.invariant.within)) len
-    ∙ ap (λ (v : Joining). v.tail ++ v.front) c.self.view_is
+    ∙ ap (λ (v : Joining). v.tail ++ v.prefix) c.self.view_is

@@ -31,7 +31,7 @@ returns-in_err-end_line-in-Some-clause-emitted g c =
     let lines = c.args.self.now.lines in
     let held = c.args.self.now.held.items in
     let cut = first-held held c.requires.sound.one c.in-Some.ensures in
-    rw (p.1, p.2) (Emits-lines (sym (numbered-first test lines (held ++ c.args.piece.now) (held ++ c.in-Some.front.now) c.in-Some.after.now cut))
+    rw (p.1, p.2) (Emits-lines (sym (numbered-first test lines (held ++ c.args.piece.now) (held ++ c.in-Some.prefix.now) c.in-Some.after.now cut))
     (Emits-halted (numbered test (lines + 1) (ended_lines c.in-Some.after.now)) (Emits-taken g.S.Sink.takes c.args.self.now.is_numbered c.in_err-end_line-in-Some.ensures.emitted) (answer_to-More c.in_err-end_line-in-Some.field-0.0)))
 
 pub returns-in-None-clause-emitted : goal.returns-in-None-clause-emitted
@@ -58,7 +58,7 @@ returns-in_ok-end_line-in-Some-clause-emitted g c =
     let lines = c.args.self.now.lines in
     let held = c.args.self.now.held.items in
     let cut = first-held held c.requires.sound.one c.in-Some.ensures in
-    Emits-lines (sym (numbered-first test lines (held ++ c.args.piece.now) (held ++ c.in-Some.front.now) c.in-Some.after.now cut))
+    Emits-lines (sym (numbered-first test lines (held ++ c.args.piece.now) (held ++ c.in-Some.prefix.now) c.in-Some.after.now cut))
     (Emits-join (Emitted-taken g.S.Sink.takes c.args.self.now.is_numbered (Emitted-from_Emits c.in_ok-end_line-in-Some.ensures.emitted))
     (Emits-lines (ap (λ n. numbered test n (ended_lines c.in-Some.after.now)) c.in_ok-end_line-in-Some.ensures.lines) (Emits-same g.S.Sink.takes c.in_ok-end_line-in-Some.ensures.numbered c.take_lines-in-Some.ensures.emitted))
     (answer_of-StreamTooLong c.take_lines-in-Some.result c.take_lines-in-Some.ensures.faults))
@@ -75,5 +75,5 @@ returns-in_ok-end_line-in-Some-clause-lines g c =
     let test = picks c.args.search.now.matcher in
     let held = c.args.self.now.held.items in
     let cut = first-held held c.requires.sound.one c.in-Some.ensures in
-    let count = count-first test 0 (held ++ c.args.piece.now) (held ++ c.in-Some.front.now) c.in-Some.after.now cut in
+    let count = count-first test 0 (held ++ c.args.piece.now) (held ++ c.in-Some.prefix.now) c.in-Some.after.now cut in
     on_ok_weaker c.take_lines-in-Some.result (λ e is. omega (arith, e (c.in_ok-end_line-in-Some.ensures.numbered ∙ is), count, c.in_ok-end_line-in-Some.ensures.lines)) c.take_lines-in-Some.ensures.lines

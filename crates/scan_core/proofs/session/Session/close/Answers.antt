@@ -10,7 +10,7 @@ invariant_of-self c =
     let Here : ℕ × Bound → Type 0 = λ stream. IsBound c.self.inside.store.now stream.1 in
     record {
       serving = record {
-        told = c.self.invariant.serving.told;
+        published_plans = c.self.invariant.serving.published_plans;
         streams = rw c.remove.ensures (All-remove Here c.self.inside.streams c.in-Some.place c.self.invariant.serving.streams);
       };
       own = c.self.invariant.own;
@@ -18,8 +18,8 @@ invariant_of-self c =
 
 pub returns : goal.returns
 returns c =
-    let s : Serving = record { store = c.self.inside.store.now; told = c.self.inside.told; streams = c.self.inside.streams } in
-    let new : Serving = record { store = c.self.inside.store.now; told = c.self.inside.told; streams = c.remove.new.self } in
+    let s : Serving = record { store = c.self.inside.store.now; published_plans = c.self.inside.published_plans; streams = c.self.inside.streams } in
+    let new : Serving = record { store = c.self.inside.store.now; published_plans = c.self.inside.published_plans; streams = c.remove.new.self } in
     subst (λ (t : Serving). IsEvent t (Close c.args.stream) (Closed c.args.stream ∷ []) new) c.self.view_is
     (closed_stream s c.args.stream c.in-Some.place new c.in-Some.ensures
     (ap (λ (streams : List (ℕ × Bound)). record s { streams = streams }) c.remove.ensures))

@@ -14,7 +14,7 @@ pub returns-in_default-clause-ok : goal.returns-in_default-clause-ok
 returns-in_default-clause-ok c =
     let request = Feed c.args.stream c.args.piece.now in
     let reply = reply_parts c.reply.result in
-    let s : Serving = record { store = c.self.inside.store.now; told = c.self.inside.told; streams = c.self.inside.streams } in
+    let s : Serving = record { store = c.self.inside.store.now; published_plans = c.self.inside.published_plans; streams = c.self.inside.streams } in
     record {
       replies = reply ∷ [];
       grown = replies_push c.args.out.now.items c.push.new.self.items c.reply.result c.in_ok-push.ensures.items;
@@ -30,7 +30,7 @@ returns-in_default-2-clause-ok c =
     let piece = c.args.piece.now in
     let request = Feed c.args.stream piece in
     let reply = reply_parts c.reply-in_default-2.result in
-    let s : Serving = record { store = c.self.inside.store.now; told = c.self.inside.told; streams = c.self.inside.streams } in
+    let s : Serving = record { store = c.self.inside.store.now; published_plans = c.self.inside.published_plans; streams = c.self.inside.streams } in
     let at = c.in-Some.ensures in
     let now = c.get.result.now in
     let got : now ≡ (c.args.stream, at.state) = c.get.ensures ∙ get_or_from_slice_get s.streams c.in-Some.place (c.args.stream, at.state) now at.here in
@@ -59,7 +59,7 @@ invariant_of-self c =
     let next : Here c.in-Some-2.next = subst Here (sym moves.state) record { here = old.here; plan = old.plan } in
     record {
       serving = record {
-        told = c.self.invariant.serving.told;
+        published_plans = c.self.invariant.serving.published_plans;
         streams = rw c.set.ensures (All-set Here streams c.in-Some.place c.in-Some-2.next next c.self.invariant.serving.streams);
       };
       own = c.self.invariant.own;
@@ -69,7 +69,7 @@ pub returns-clause-ok : goal.returns-clause-ok
 returns-clause-ok c =
     let piece = c.args.piece.now in
     let request = Feed c.args.stream piece in
-    let s : Serving = record { store = c.self.inside.store.now; told = c.self.inside.told; streams = c.self.inside.streams } in
+    let s : Serving = record { store = c.self.inside.store.now; published_plans = c.self.inside.published_plans; streams = c.self.inside.streams } in
     let at = c.in-Some.ensures in
     let now = c.get.result.now in
     let next = c.in-Some-2.next in
@@ -79,12 +79,12 @@ returns-clause-ok c =
     let moves : MovesTo (c.args.stream, at.state) piece [] hits next =
     subst (λ hs. MovesTo (c.args.stream, at.state) piece hs hits next) c.new-hits.ensures.items
     (subst (λ (n : ℕ × Bound). MovesTo n piece c.new-hits.result.items hits next) got moved) in
-    let tells = c.in_ok-push_answer.ensures.ok in
+    let replies_hits = c.in_ok-push_answer.ensures.ok in
     let new : Serving = record s { streams = c.set.new.self } in
     record {
-      replies = fed_replies c.args.stream tells.blocks next.1.scan.place;
-      grown = tells.grown ∙ ap (λ p. replies_of c.args.out.now.items ++ fed_replies c.args.stream tells.blocks p) c.place.ensures;
-      event = subst (λ (t : Serving). IsEvent t request (fed_replies c.args.stream tells.blocks next.1.scan.place) new) c.self.view_is
-          (fed_stream s c.args.stream c.in-Some.place piece hits tells.blocks next new at moves (rw (← c.deref.ensures.value) tells.cut)
+      replies = fed_replies c.args.stream replies_hits.blocks next.1.scan.place;
+      grown = replies_hits.grown ∙ ap (λ p. replies_of c.args.out.now.items ++ fed_replies c.args.stream replies_hits.blocks p) c.place.ensures;
+      event = subst (λ (t : Serving). IsEvent t request (fed_replies c.args.stream replies_hits.blocks next.1.scan.place) new) c.self.view_is
+          (fed_stream s c.args.stream c.in-Some.place piece hits replies_hits.blocks next new at moves (rw (← c.deref.ensures.value) replies_hits.cut)
           (ap (λ (streams : List (ℕ × Bound)). record s { streams = streams }) c.set.ensures));
     }

@@ -2,7 +2,7 @@ use Rattle.std.proofs.Common.{◌≡◌, ℕ, ◌<◌, ◌++◌, ◌∷◌, [], 
 use Rattle.std.specs.Prelude.{nat_eq}
 use Rattle.std.specs.Map.{lookup}
 use Rattle.std.proofs.lemmas.List.Elements.{All-push}
-use Rattle.plan_store.specs.Tickets.{IsOf, Told}
+use Rattle.plan_store.specs.Tickets.{IsOf, TicketParts}
 use Rattle.flow_scan.specs.Scanners.{started}
 use Rattle.scan_wire.specs.Messages.{Open, Opened, reply_parts}
 use Rattle.scan_core.specs.declared.limits.TheConstants.{MAX_STREAMS}
@@ -20,7 +20,7 @@ pub returns-then-is_some-clause-ok : goal.returns-then-is_some-clause-ok
 returns-then-is_some-clause-ok c =
     let request = Open c.args.stream c.args.number in
     let reply = reply_parts c.reply.result in
-    let s : Serving = record { store = c.self.inside.store.now; told = c.self.inside.told; streams = c.self.inside.streams } in
+    let s : Serving = record { store = c.self.inside.store.now; published_plans = c.self.inside.published_plans; streams = c.self.inside.streams } in
     let at = found c.find_stream.result (lookup (nat_eq c.args.stream) s.streams ≡ None) (StandsAt c.args.stream s.streams) c.find_stream.ensures (sym c.is_some.ensures ∙ c.if-is_some.true) in
     subst (λ (t : Serving). IsEvent t request (reply ∷ []) t) c.self.view_is
     (event_refused s request StreamInUse reply (opened_twice s c.args.stream c.args.number at.0 at.1) c.reply.ensures)
@@ -29,11 +29,11 @@ pub returns-in_default-clause-ok : goal.returns-in_default-clause-ok
 returns-in_default-clause-ok c =
     let request = Open c.args.stream c.args.number in
     let reply = reply_parts c.reply-in_default.result in
-    let s : Serving = record { store = c.self.inside.store.now; told = c.self.inside.told; streams = c.self.inside.streams } in
+    let s : Serving = record { store = c.self.inside.store.now; published_plans = c.self.inside.published_plans; streams = c.self.inside.streams } in
     let free = found_none c.find_stream.result (lookup (nat_eq c.args.stream) s.streams ≡ None) (StandsAt c.args.stream s.streams) c.find_stream.ensures (sym c.is_some.ensures ∙ c.if-is_some.false) in
     let few : length s.streams < MAX_STREAMS = omega (arith, c.len.ensures.len, c.if-len-ge-MAX_STREAMS.false) in
-    let stranger : ¬ Contains (map (λ (ticket : Told). ticket.number) (tickets_of s)) c.args.number =
-    subst (λ (t : Serving). ¬ Contains (map (λ (ticket : Told). ticket.number) (tickets_of t)) c.args.number) (sym c.self.view_is) c.in_default.ensures.stranger in
+    let stranger : ¬ Contains (map (λ (ticket : TicketParts). ticket.number) (tickets_of s)) c.args.number =
+    subst (λ (t : Serving). ¬ Contains (map (λ (ticket : TicketParts). ticket.number) (tickets_of t)) c.args.number) (sym c.self.view_is) c.in_default.ensures.stranger in
     subst (λ (t : Serving). IsEvent t request (reply ∷ []) t) c.self.view_is
     (opened_none s c.args.stream c.args.number reply (opened_free s c.args.stream c.args.number free few) stranger c.reply-in_default.ensures)
 
@@ -45,10 +45,10 @@ invariant_of-self c =
     let here : IsOf store ticket = subst (λ (t : Serving). IsOf t.store ticket) (sym c.self.view_is) c.in-Some.ensures.here in
     let bound : Here (c.args.stream, record { ticket = ticket; scan = started ticket.plan 0 }) = record { here = here; plan = refl } in
     let is : c.in-Ok.opened ≡ (c.args.stream, record { ticket = ticket; scan = started ticket.plan 0 }) =
-    c.in-Ok.ensures.ok ∙ ap (λ (t : Told). (c.args.stream, record { ticket = t; scan = started t.plan 0 })) c.again.ensures in
+    c.in-Ok.ensures.ok ∙ ap (λ (t : TicketParts). (c.args.stream, record { ticket = t; scan = started t.plan 0 })) c.again.ensures in
     record {
       serving = record {
-        told = c.self.invariant.serving.told;
+        published_plans = c.self.invariant.serving.published_plans;
         streams = rw c.push.ensures (All-push Here c.self.inside.streams c.in-Ok.opened c.self.invariant.serving.streams (subst Here (sym is) bound));
       };
       own = c.self.invariant.own;
@@ -57,13 +57,13 @@ invariant_of-self c =
 pub returns-clause-ok : goal.returns-clause-ok
 returns-clause-ok c =
     let request = Open c.args.stream c.args.number in
-    let s : Serving = record { store = c.self.inside.store.now; told = c.self.inside.told; streams = c.self.inside.streams } in
+    let s : Serving = record { store = c.self.inside.store.now; published_plans = c.self.inside.published_plans; streams = c.self.inside.streams } in
     let new : Serving = record s { streams = c.push.new.self } in
     let free = found_none c.find_stream.result (lookup (nat_eq c.args.stream) s.streams ≡ None) (StandsAt c.args.stream s.streams) c.find_stream.ensures (sym c.is_some.ensures ∙ c.if-is_some.false) in
     let few : length s.streams < MAX_STREAMS = omega (arith, c.len.ensures.len, c.if-len-ge-MAX_STREAMS.false) in
     let grown : c.push.new.self ≡ s.streams ++ (c.args.stream, record { ticket = c.in-Some.ticket; scan = started c.in-Some.ticket.plan 0 }) ∷ [] =
-    c.push.ensures ∙ ap (λ (item : ℕ × Bound). s.streams ++ item ∷ []) (c.in-Ok.ensures.ok ∙ ap (λ (t : Told). (c.args.stream, record { ticket = t; scan = started t.plan 0 })) c.again.ensures) in
+    c.push.ensures ∙ ap (λ (item : ℕ × Bound). s.streams ++ item ∷ []) (c.in-Ok.ensures.ok ∙ ap (λ (t : TicketParts). (c.args.stream, record { ticket = t; scan = started t.plan 0 })) c.again.ensures) in
     let agreed : AgreesWith c.in-Some.ticket s = subst (AgreesWith c.in-Some.ticket) (sym c.self.view_is) c.agrees_with.ensures in
     subst (λ (t : Serving). IsEvent t request (Opened c.args.stream ∷ []) new) c.self.view_is
     (opened_stream s c.args.stream c.args.number c.in-Some.ticket (Opened c.args.stream) new (opened_free s c.args.stream c.args.number free few)
-    (subst (λ (t : Told). IsSound t.plan) c.again.ensures c.in-Ok.ensures.sound) (known_agree s c.in-Some.ticket agreed) c.in-Some.ensures.number refl (ap (λ (streams : List (ℕ × Bound)). record s { streams = streams }) grown))
+    (subst (λ (t : TicketParts). IsSound t.plan) c.again.ensures c.in-Ok.ensures.sound) (known_agree s c.in-Some.ticket agreed) c.in-Some.ensures.number refl (ap (λ (streams : List (ℕ × Bound)). record s { streams = streams }) grown))

@@ -3,16 +3,16 @@ use Rattle.std.specs.Option.{ok_or}
 use Rattle.std.proofs.lemmas.Option.{get_or_from_slice_get}
 use Rattle.scan_wire.specs.Messages.{Feed}
 use Rattle.scan_core.specs.declared.refusal.Refusal.TheVariants.{StreamTooLong}
-use Rattle.scan_core.specs.Fronts.{IsKept, MayFeed}
+use Rattle.scan_core.specs.Prefixes.{IsKept, MayFeed}
 use Rattle.scan_core.specs.Sessions.{Bound, Serving, by_tails, parts_of}
 use Rattle.scan_core.specs.Steps.{refusal_of}
-use Rattle.scan_core.proofs.FrontLemmas.{place_fits, place_refused}
+use Rattle.scan_core.proofs.PrefixLemmas.{place_fits, place_refused}
 use Rattle.scan_core.proofs.session.Session.place_after.Goals as goal
 
 pub returns-clause-ok : goal.returns-clause-ok
 returns-clause-ok c =
     let piece = c.args.piece.now in
-    let s : Serving = record { store = c.self.inside.store.now; told = c.self.inside.told; streams = c.self.inside.streams } in
+    let s : Serving = record { store = c.self.inside.store.now; published_plans = c.self.inside.published_plans; streams = c.self.inside.streams } in
     let at = c.in-Some.ensures in
     let now = c.get.result.now in
     let got : now ≡ (c.args.stream, at.state) = c.get.ensures ∙ get_or_from_slice_get s.streams c.in-Some.place (c.args.stream, at.state) now at.here in
@@ -25,7 +25,7 @@ returns-clause-ok c =
 pub returns-clause-refused : goal.returns-clause-refused
 returns-clause-refused c =
     let piece = c.args.piece.now in
-    let s : Serving = record { store = c.self.inside.store.now; told = c.self.inside.told; streams = c.self.inside.streams } in
+    let s : Serving = record { store = c.self.inside.store.now; published_plans = c.self.inside.published_plans; streams = c.self.inside.streams } in
     let at = c.in-Some.ensures in
     let now = c.get.result.now in
     let got : now ≡ (c.args.stream, at.state) = c.get.ensures ∙ get_or_from_slice_get s.streams c.in-Some.place (c.args.stream, at.state) now at.here in

@@ -2,7 +2,7 @@ use Rattle.std.proofs.Math.Nat.{min-le_right}
 use Rattle.std.proofs.Common.{◌≡◌, ℕ, ◌-◌, sym, ap, ◌∙◌, subst, arith}
 use Rattle.lit_plan.specs.Plans.{Plan}
 use Rattle.lit_plan.specs.Bounds.{HasBounds, carry_of}
-use Rattle.scan_core.specs.Fronts.{IsKept}
+use Rattle.scan_core.specs.Prefixes.{IsKept}
 use Rattle.scan_core.specs.Sessions.{Bound}
 use Rattle.scan_core.proofs.CarriedLemmas.{bounds_of_normal}
 use Rattle.scan_core.proofs.stream.Stream.place_after.Goals as goal

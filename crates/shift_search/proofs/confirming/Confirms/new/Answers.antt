@@ -1,7 +1,7 @@
 -- The table has no bit at first, and in the end those of the literals alone.
 use Rattle.std.proofs.Common.{◌^◌, inl, inr, ap, ◌∙◌, arith}
 use Rattle.list_index.specs.Suffixes.{case_bits}
-use Rattle.list_index.proofs.MarkLemmas.{none_marked}
+use Rattle.list_index.proofs.HashBitLemmas.{none_marked}
 use Rattle.shift_search.specs.declared.confirming.TheConstants.{CONFIRM_BITS}
 use Rattle.shift_search.proofs.confirming.Confirms.new.Goals as goal
 

@@ -24,11 +24,11 @@ returns c = λ cleared.
     let width = c.index-width.result.now in
     let byte = c.index.result.now in
     let word = c.last_word.result in
-    let told : width ≡ slice_index confirms.widths.items c.args.bucket = c.index-width.ensures ∙ get_or_default_zero confirms.widths.items c.args.bucket width (omega (arith, c.requires.bucket, has.eight)) in
+    let known : width ≡ slice_index confirms.widths.items c.args.bucket = c.index-width.ensures ∙ get_or_default_zero confirms.widths.items c.args.bucket width (omega (arith, c.requires.bucket, has.eight)) in
     let read : byte ≡ slice_index table c.hash_of.result = c.index.ensures ∙ get_or_default_zero table c.hash_of.result byte (omega (arith, c.hash_of.ensures.below, has.room)) in
     let hash : c.hash_of.result ≡ hash_of CONFIRM_BITS (bit_or (bit_and word (last_bits width)) confirms.case_bits) =
     c.hash_of.ensures.value ∙ ap (λ m. hash_of CONFIRM_BITS (bit_or (bit_and word m) confirms.case_bits)) c.last_bits.ensures in
     subst (λ (v : Bucketing). NoneOf v text c.args.bucket c.args.end) c.self.view_is (λ place same occurs.
-    let bit = confirmed-occurs l buckets confirms text place c.args.end word width has (are_bytes text c.type_inv.text) c.requires.eight c.requires.inside c.last_word.ensures (told ∙ ap (slice_index confirms.widths.items) (sym same)) occurs in
+    let bit = confirmed-occurs l buckets confirms text place c.args.end word width has (are_bytes text c.type_inv.text) c.requires.eight c.requires.inside c.last_word.ensures (known ∙ ap (slice_index confirms.widths.items) (sym same)) occurs in
     let set : bit_at byte c.args.bucket ≡ 1 = ap (bit_at byte) (sym same) ∙ ap (λ b. bit_at b (bucket_at buckets place)) (read ∙ ap (slice_index table) hash) ∙ bit in
     false≢true (sym cleared ∙ c.is_marked.ensures.1 set))

@@ -1,7 +1,7 @@
 -- One more position of each lane is read.
 use Rattle.std.proofs.Common.{◌≡◌, ℕ, ◌+◌, ◌*◌, ◌<◌, ◌⊎◌, length, set, ◌∙◌, arith}
 use Rattle.std.proofs.lemmas.List.{length-set}
-use Rattle.text_automaton.specs.Fronts.{IsRead}
+use Rattle.text_automaton.specs.Prefixes.{IsRead}
 use Rattle.text_automaton.proofs.ReadLemmas.{AreDone, done_more, read_on, set_more}
 use Rattle.text_automaton.proofs.tables.Tables.read_lanes.Goals as goal
 

@@ -1,5 +1,5 @@
 use Rattle.std.proofs.Common.{◌≡◌, ℕ, ◌+◌, ◌*◌, length, slice_index}
-use Rattle.text_automaton.specs.Fronts.{IsRead}
+use Rattle.text_automaton.specs.Prefixes.{IsRead}
 use Rattle.text_automaton.specs.declared.reading.TheConstants.{BLOCK}
 use Rattle.text_automaton.proofs.ReadLemmas.{AreDone}
 use Rattle.text_automaton.proofs.tables.Tables.read_lanes.Given as goal

@@ -2,7 +2,7 @@
 use Rattle.std.proofs.Common.{◌+◌, ◌<◌, inl, inr, ◌∙◌, arith}
 use Rattle.std.proofs.lemmas.Bool.{cases_lt}
 use Rattle.std.proofs.lemmas.List.{length-set}
-use Rattle.text_automaton.specs.Fronts.{IsRead}
+use Rattle.text_automaton.specs.Prefixes.{IsRead}
 use Rattle.text_automaton.proofs.ReadLemmas.{read_on, set_more}
 use Rattle.text_automaton.proofs.tables.Tables.read_rest.Goals as goal
 

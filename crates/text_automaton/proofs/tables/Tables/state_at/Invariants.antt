@@ -1,5 +1,5 @@
 use Rattle.std.proofs.Common.{◌≡◌, ◌-◌, ◌<◌, length}
-use Rattle.text_automaton.specs.Fronts.{state_after}
+use Rattle.text_automaton.specs.Prefixes.{state_after}
 use Rattle.text_automaton.proofs.tables.Tables.state_at.Given as goal
 
 -- the state is the one to which the bytes passed lead

@@ -2,7 +2,7 @@
 use Rattle.std.proofs.Common.{◌≡◌, ◌-◌, ◌≤◌, ℕ, length, take, subst, arith}
 use Rattle.std.proofs.lemmas.Bool.{false≢true}
 use Rattle.text_ends.specs.HitsAfter.{GainsHitsAfter, StopsAt}
-use Rattle.text_ends.proofs.HitLists.{gained_more, none_in_front}
+use Rattle.text_ends.proofs.HitLists.{gained_more, none_in_prefix}
 use Rattle.text_ends.proofs.Stops.{gained_nothing, none_late, span_end, span_gained, stopped_further}
 use Rattle.text_search.proofs.end_finder.EndFinder.add_spans.Goals as goal
 use Rattle.text_search.proofs.end_finder.EndFinder.add_spans.Goals.{In-Ok}
@@ -20,7 +20,7 @@ pub returns-in-Err-clause-quiet : goal.returns-in-Err-clause-quiet
 returns-in-Err-clause-quiet c = λ none.
     let before = c.spans.invariant in
     absurd (false≢true ((rw c.split_at.ensures.front at c.in-Err.ensures.quiet)
-    (none_in_front c.args.compiled.now.literals c.args.text.now c.args.from c.spans.place c.min-stop.result before.ahead none)))
+    (none_in_prefix c.args.compiled.now.literals c.args.text.now c.args.from c.spans.place c.min-stop.result before.ahead none)))
 
 -- how many hits were gained before
 gained : (c : In-Ok) → c.len.result - c.len-before.result ≡ length c.spans.out.items - length c.args.out.now.items

@@ -5,7 +5,7 @@ use Rattle.lit_base.specs.Literals.{literal_at}
 use Rattle.list_index.specs.Checks.{IsCheckOf, IsChecked}
 use Rattle.list_index.specs.Suffixes.{case_bits, suffix_key, key_width}
 use Rattle.list_index.specs.declared.suffixes.checks.TheConstants.{CHECK_BITS}
-use Rattle.list_index.proofs.MarkLemmas.{none_marked}
+use Rattle.list_index.proofs.HashBitLemmas.{none_marked}
 use Rattle.list_index.proofs.suffixes.checks.SuffixChecks.new.Goals as goal
 
 pub loop-place-init : goal.loop-place-init

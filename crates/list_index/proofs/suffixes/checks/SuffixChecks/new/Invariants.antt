@@ -1,7 +1,7 @@
 use Rattle.std.proofs.Common.{◌≡◌, ℕ, ◌^◌, ◌<◌, length, min, vec_len}
 use Rattle.lit_base.specs.Literals.{literal_at}
 use Rattle.list_index.specs.Checks.{IsChecked, IsLiteralCheck}
-use Rattle.list_index.specs.Marks.{IsMarked}
+use Rattle.list_index.specs.HashBits.{IsMarked}
 use Rattle.list_index.specs.Suffixes.{suffix_key, key_width}
 use Rattle.list_index.specs.declared.suffixes.checks.TheConstants.{CHECK_BITS}
 use Rattle.list_index.proofs.suffixes.checks.SuffixChecks.new.Given as goal
