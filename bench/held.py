@@ -17,6 +17,7 @@ HELD = tuple((re.compile(words), reason) for words, reason in (
     (r"^spoilt", "false ends"),
     (r"some short", "short members"),
     (r"null pattern", "a null pattern"),
+    (r"^empty lines: -v", "empty lines"),
     (r"-x", "whole lines"),
     (r"small files|source file|start-up|early", "opening"),
     (r"one byte|one rare|three bytes|one absent|-q|standard input|[Mm]egabyte|endless", "reading"),
