@@ -5,7 +5,7 @@ use Rattle.std.proofs.lemmas.Bool.{cases_lt, cases_eq}
 use Rattle.std.proofs.lemmas.Nat.Bits.{bit_at_or, bit_at-lt}
 use Rattle.nib_mask.specs.declared.masks.Masks.{Masks}
 use Rattle.nib_mask.specs.Tables.{table_value}
-use Rattle.nib_mask.specs.Candidates.{IsCandidate, filter_byte_at}
+use Rattle.nib_mask.specs.Candidates.{IsCandidate, filter_number_at}
 use Rattle.byte_lanes.specs.Lanes.{IsMaskOf}
 use Rattle.byte_lanes.specs.Filtered.{IsMarked}
 use Rattle.byte_lanes.specs.PlacesAfter.{NoneWithin}
@@ -24,7 +24,7 @@ module _ (P : ℕ → Type 0) where
 
 -- the three bytes before an end from the third on stand in the text
 bytes_of_end : (masks : Masks) (text : List ℕ) (place end : ℕ) → end ≡ place + 3
-    → filter_byte_at masks (0 ∷ 0 ∷ []) text end ≡ table_value masks (get_or text place 0) (get_or text (place + 1) 0) (get_or text (place + 2) 0)
+    → filter_number_at masks (0 ∷ 0 ∷ []) text end ≡ table_value masks (get_or text place 0) (get_or text (place + 1) 0) (get_or text (place + 2) 0)
 bytes_of_end masks text place end at =
     let padded : List ℕ = 0 ∷ 0 ∷ text in
     let third : end - 1 ≡ suc (suc place) = omega arith in
@@ -32,7 +32,7 @@ bytes_of_end masks text place end at =
     let last : end + 1 ≡ suc (suc (place + 2)) = omega arith in
     λ i. table_value masks (get_or padded (third i) 0) (get_or padded (second i) 0) (get_or padded (last i) 0)
 
--- from the third end on, a candidate is a place whose three bytes have a filter byte that is not zero
+-- from the third end on, a candidate is a place whose three bytes have a filter number that is not zero
 pub candidate_is_marked : (masks : Masks) (text : List ℕ) (place end : ℕ) → end ≡ place + 3 → end ≤ length text → IsMarked masks text place ↔ IsCandidate masks text end
 candidate_is_marked masks text place end at within =
     let same = bytes_of_end masks text place end at in (

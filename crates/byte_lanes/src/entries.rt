@@ -82,7 +82,7 @@ impl MaskEntries {
         }
     }
 
-    /// The filter bytes of 128 positions.
+    /// The filter numbers of 128 positions.
     #[inline(always)]
     pub(crate) fn filter(&self, x0: &[u8], x1: &[u8], x2: &[u8], at: usize) -> Four
         requires x0 { at + 128 ≤ length x0.now }

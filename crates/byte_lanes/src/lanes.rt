@@ -1,7 +1,6 @@
 //! Single vectors of 32 and of 64 bytes, lane by lane.
 ghost use Rattle.std.specs.Prelude.{◌≡◌, ◌≢◌, ◌↔◌, ℕ, ◌+◌, ◌/◌, ◌%◌, ◌<◌, ◌≤◌, ◌==◌, if◌then◌else◌, ◌++◌, List, length, slice_index, bit_and, bit_or, IsTrue};
 ghost use Rattle.std.specs.Int.{bit_at};
-ghost use Rattle.std.specs.Simd.Lanes.{put_chunk};
 ghost use Rattle.byte_lanes.specs.Lanes.{HasLanes, HoldsBelow, HoldsTwice, SeesLanes};
 
 use std::simd::prelude::*;
@@ -13,15 +12,6 @@ pub fn load(bytes: &[u8], at: usize) -> u8x32
     ensures { HasLanes result (λ k. slice_index bytes.now (at + k)) }
 {
     u8x32::from_slice(&bytes[at..])
-}
-
-/// Writes the lanes from a position on.
-#[inline(always)]
-pub(crate) fn store(vector: u8x32, bytes: &mut [u8], at: usize)
-    requires { at + 32 ≤ length bytes.old }
-    ensures { bytes.new ≡ put_chunk at bytes.old vector }
-{
-    vector.copy_to_slice(&mut bytes[at..]);
 }
 
 /// A table twice.

@@ -4,7 +4,7 @@ ghost use Rattle.nib_mask.specs.Candidates.{IsCandidate};
 ghost use Rattle.nib_mask.specs.Halves.{widened};
 ghost use Rattle.byte_lanes.specs.Filtered.{IsFilteredBelow};
 
-use nib_mask::{ByteMasks, Masks, plain_byte};
+use nib_mask::{ByteMasks, Masks, filter_number};
 
 /// Whether an occurrence may end at a position of the text.
 pub(crate) fn is_candidate(masks: &ByteMasks, text: &[u8], end: usize) -> bool
@@ -28,7 +28,7 @@ fn byte_before(text: &[u8], end: usize, back: usize) -> u8
     if back <= end { text[end - back] } else { 0 }
 }
 
-/// Writes the filter bytes from a position on, where those below are written.
+/// Writes the filter numbers from a position on, where those below are written.
 pub(crate) fn filter_rest(
     masks: &Masks,
     x0: &[u8],
@@ -44,6 +44,6 @@ pub(crate) fn filter_rest(
     ensures { IsFilteredBelow masks.now x0.now x1.now x2.now (length x0.now) out.new }
 {
     for place in from..out.len() {
-        out[place] = plain_byte(masks, x0[place], x1[place], x2[place]);
+        out[place] = filter_number(masks, x0[place], x1[place], x2[place]);
     }
 }

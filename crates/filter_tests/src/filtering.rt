@@ -3,7 +3,7 @@ ghost use Rattle.std.specs.Prelude.{◌<◌, ◌≤◌, length};
 
 use lane_filter::{Candidates, Prefilter, any_set, filter, filter_wide};
 use lit_base::{Ends, Fault, Fold, LitList, Profile, RawList, is_cut};
-use nib_mask::{Masks, plain_byte};
+use nib_mask::{Masks, filter_number};
 use std::alloc::{AllocError, Global};
 use std::test::Fail;
 
@@ -93,7 +93,7 @@ fn prefilter_of(list: &LitList) -> Prefilter {
     }
 }
 
-/// A test of an end, unfiltered: by the filter byte of the three bytes before it, by its last byte being one of two, or
+/// A test of an end, unfiltered: by the filter number of the three bytes before it, by its last byte being one of two, or
 /// by each of the three being one of two.
 #[derive(Clone, Copy)]
 enum PlainTest {
@@ -107,7 +107,7 @@ impl PlainTest {
         let last = before(text, end, 1);
         match self {
             PlainTest::Filter(masks) => {
-                plain_byte(masks, before(text, end, 3), before(text, end, 2), last) != 0
+                filter_number(masks, before(text, end, 3), before(text, end, 2), last) != 0
             }
             PlainTest::LastOf(bytes) => is_one_of(last, *bytes),
             PlainTest::WordOf(word) => {
@@ -190,7 +190,7 @@ fn plain_next(plain: &PlainTest, text: &[u8], from: usize) -> Option<usize> {
         .find(|end| plain.passes(text, *end))
 }
 
-/// Whether both kernels give the plain filter bytes at `len` positions from an offset on.
+/// Whether both kernels give the plain filter numbers at `len` positions from an offset on.
 fn kernels_agree(masks: &Masks, bytes: &[u8], offset: usize, len: usize) -> bool
     requires offset { offset < 1000 }
     requires len { len ≤ 200 }
@@ -207,7 +207,7 @@ fn kernels_agree(masks: &Masks, bytes: &[u8], offset: usize, len: usize) -> bool
     filter_wide(masks, x0, x1, x2, &mut by_swizzles[..len]);
     let found = by_comparisons.iter().zip(by_swizzles.iter());
     x0.iter().zip(x1).zip(x2).zip(found).all(|(((a, b), c), (one, other))| {
-        let wanted = plain_byte(masks, *a, *b, *c);
+        let wanted = filter_number(masks, *a, *b, *c);
         *one == wanted && *other == wanted
     })
 }

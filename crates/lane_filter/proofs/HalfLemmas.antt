@@ -5,7 +5,7 @@ use Rattle.std.proofs.lemmas.Bool.{cases_eq}
 use Rattle.lit_base.specs.Literals.{Literals}
 use Rattle.nib_mask.specs.declared.masks.Masks.{Masks}
 use Rattle.nib_mask.specs.declared.byte_masks.ByteMasks.{ByteMasks}
-use Rattle.nib_mask.specs.Candidates.{Covers, CoversBy, GivesFilterSets, IsCandidate, filter_byte_at}
+use Rattle.nib_mask.specs.Candidates.{Covers, CoversBy, GivesFilterSets, IsCandidate, filter_number_at}
 use Rattle.nib_mask.specs.FilterSet.{filter_set, passes}
 use Rattle.nib_mask.specs.Halves.{GivesPart, widened}
 use Rattle.nib_mask.proofs.Buckets.{runs_mask-lt}
@@ -31,7 +31,7 @@ two_sets l ends masks first last sets low high a b c la lb lc =
 
 -- what a part gives the three bytes before an end
 part_at : (part : ℕ → ℕ) (masks : Masks) (half : ByteMasks) (text : List ℕ) (end : ℕ) → All (λ b. b < 256) text → GivesPart part masks half
-    → filter_byte_at (widened half) (0 ∷ 0 ∷ []) text end ≡ part (filter_byte_at masks (0 ∷ 0 ∷ []) text end)
+    → filter_number_at (widened half) (0 ∷ 0 ∷ []) text end ≡ part (filter_number_at masks (0 ∷ 0 ∷ []) text end)
 part_at part masks half text end bytes gives =
     gives _ _ _ (padded-lt text (end - 1) bytes) (padded-lt text end bytes) (padded-lt text (end + 1) bytes)
 
@@ -45,7 +45,7 @@ two_cover l masks first last covers low high text place end bytes occurs =
     let marked = there.marked in
     let low_is = part_at (λ n. n % 256) masks first text end bytes low in
     let high_is = part_at (λ n. n / 256) masks last text end bytes high in
-    elim (cases_eq (filter_byte_at (widened first) (0 ∷ 0 ∷ []) text end) 0) [
+    elim (cases_eq (filter_number_at (widened first) (0 ∷ 0 ∷ []) text end) 0) [
       | inl none ↦ inr (record { some = some; within = within; marked = λ empty. marked (omega (arith, none, empty, low_is, high_is)) })
       | inr set ↦ inl (record { some = some; within = within; marked = set })
     ]

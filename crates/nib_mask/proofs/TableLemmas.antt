@@ -12,7 +12,7 @@ use Rattle.lit_base.specs.Occurrences.{Occurs}
 use Rattle.nib_mask.specs.declared.half.Half.{Half}
 use Rattle.nib_mask.specs.declared.half.Half.TheVariants.{Low, High}
 use Rattle.nib_mask.specs.declared.masks.Masks.{Masks}
-use Rattle.nib_mask.specs.Candidates.{Covers, filter_byte_at, filter_set_at}
+use Rattle.nib_mask.specs.Candidates.{Covers, filter_number_at, filter_set_at}
 use Rattle.nib_mask.specs.FilterSet.{filter_set, is_used, passes, passes_at, shares_half}
 use Rattle.nib_mask.specs.Runs.{bucket_of, runs_mask}
 use Rattle.nib_mask.specs.Tables.{allows, table_value, value_at}
@@ -53,7 +53,7 @@ value_at-is l ends masks position byte small low high =
     ∙ runs_mask-and (allows l.folding position Low (byte % 16)) (allows l.folding position High (byte / 16)) l.texts 0 ends
     ∙ (λ i. runs_mask (λ run. allows-both l.folding position byte run i) l.texts 0 ends)
 
--- the filter byte of three bytes is their filter set
+-- the filter number of three bytes is their filter set
 pub table_value-is : (l : Literals) (ends : List ℕ) (masks : Masks) → HasTables l ends masks → (a b c : ℕ) → a < 256 → b < 256 → c < 256 → table_value masks a b c ≡ filter_set l ends a b c
 unfolding table_value filter_set passes
 table_value-is l ends masks tables a b c small_a small_b small_c =
@@ -88,14 +88,14 @@ some-occurs l text place end nonempty occurs =
     let begins = occurs.begins in
     omega (arith, some, len, begins)
 
--- no occurrence goes past tables whose filter bytes are the filter sets
+-- no occurrence goes past tables whose filter numbers are the filter sets
 pub covers-from_set : (l : Literals) (ends : List ℕ) (masks : Masks) → IsCut 16 (length l.texts) ends → All (λ len. 1 ≤ len) (lengths l) → ((a b c : ℕ) → a < 256 → b < 256 → c < 256 → table_value masks a b c ≡ filter_set l ends a b c) → Covers l masks
 covers-from_set l ends masks cut nonempty set text place end bytes occurs = record {
   some = some-occurs l text place end nonempty occurs;
   within = occurs.ends;
   marked = λ none.
       let before = 0 ∷ 0 ∷ [] in
-      let same : filter_byte_at masks before text end ≡ filter_set_at l ends before text end =
+      let same : filter_number_at masks before text end ≡ filter_set_at l ends before text end =
       set _ _ _ (padded-lt text (end - 1) bytes) (padded-lt text end bytes) (padded-lt text (end + 1) bytes) in
       let bit = bit_at-occurs l ends text before place end cut refl occurs in
       let zero_bit = ap (λ n. bit_at n (bucket_of ends place)) (sym same ∙ none) ∙ bit_at-zero (bucket_of ends place) in

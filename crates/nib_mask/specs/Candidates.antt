@@ -6,9 +6,9 @@ use Rattle.nib_mask.specs.declared.masks.Masks.{Masks}
 use Rattle.nib_mask.specs.FilterSet.{filter_set}
 use Rattle.nib_mask.specs.Tables.{table_value}
 
--- the filter byte of the last three bytes of two bytes and the first `end` bytes of the text
-abbrev pub filter_byte_at : Masks → List ℕ → List ℕ → ℕ → ℕ
-filter_byte_at masks before text end =
+-- the filter number of the last three bytes of two bytes and the first `end` bytes of the text
+abbrev pub filter_number_at : Masks → List ℕ → List ℕ → ℕ → ℕ
+filter_number_at masks before text end =
     table_value masks (slice_index (before ++ text) (end - 1)) (slice_index (before ++ text) end)
     (slice_index (before ++ text) (end + 1))
 
@@ -18,11 +18,11 @@ filter_set_at l ends before text end =
     filter_set l ends (slice_index (before ++ text) (end - 1)) (slice_index (before ++ text) end)
     (slice_index (before ++ text) (end + 1))
 
--- a literal may end at this position of the text: its filter byte, with two zero bytes before the text, is not zero
+-- a literal may end at this position of the text: its filter number, with two zero bytes before the text, is not zero
 pub record IsCandidate (masks : Masks) (text : List ℕ) (end : ℕ) : Type 0 where
   pub some : 1 ≤ end
   pub within : end ≤ length text
-  pub marked : filter_byte_at masks (0 ∷ 0 ∷ []) text end ≢ 0
+  pub marked : filter_number_at masks (0 ∷ 0 ∷ []) text end ≢ 0
 
 -- a test of ends misses no occurrence: where a literal ends, in any text, the test passes the position
 abbrev pub CoversBy : Literals → (List ℕ → ℕ → Type 0) → Type 0

@@ -12,7 +12,7 @@ value_at masks position byte =
     bit_and (slice_index (slice_index_or masks.low position []) (byte % 16))
     (slice_index (slice_index_or masks.high position []) (byte / 16))
 
--- the filter byte of three bytes: the bits that they share at the positions 0, 1 and 2
+-- the filter number of three bytes: the bits that they share at the positions 0, 1 and 2
 unfoldable pub table_value : Masks → ℕ → ℕ → ℕ → ℕ
 table_value masks a b c = bit_and (bit_and (value_at masks 0 a) (value_at masks 1 b)) (value_at masks 2 c)
 

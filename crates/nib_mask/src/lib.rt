@@ -13,4 +13,4 @@ mod prefixes;
 
 pub use byte_masks::ByteMasks;
 pub use candidates::candidate_law;
-pub use masks::{Masks, plain_byte};
+pub use masks::{Masks, filter_number};
