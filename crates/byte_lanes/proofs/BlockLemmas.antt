@@ -1,12 +1,12 @@
--- Blocks of positions: marked by the filter or by one of two tests, and stretches without places.
-use Rattle.std.proofs.Common.{◌≡◌, ◌↔◌, ℕ, suc, ◌+◌, ◌-◌, ◌<◌, ◌≤◌, ◌∷◌, [], List, length, get_or, sym, subst, ◌∙◌, arith, ⊎_elim, ◌⊎◌, inl, inr, bit_or}
+-- Blocks of positions: marked by the filter, by one of two tests or by both, and stretches without places.
+use Rattle.std.proofs.Common.{◌≡◌, ◌↔◌, ℕ, suc, ◌+◌, ◌-◌, ◌<◌, ◌≤◌, ◌∷◌, [], List, length, get_or, sym, subst, ◌∙◌, arith, ⊎_elim, ◌⊎◌, inl, inr, bit_and, bit_or, ◌≢◌}
 use Rattle.std.specs.Int.{bit_at}
 use Rattle.std.proofs.lemmas.Bool.{cases_lt, cases_eq}
-use Rattle.std.proofs.lemmas.Nat.Bits.{bit_at_or, bit_at-lt}
+use Rattle.std.proofs.lemmas.Nat.Bits.{bit_at_and, bit_at_or, bit_at-lt}
 use Rattle.nib_mask.specs.declared.masks.Masks.{Masks}
 use Rattle.nib_mask.specs.Tables.{table_value}
 use Rattle.nib_mask.specs.Candidates.{IsCandidate, filter_number_at}
-use Rattle.byte_lanes.specs.Lanes.{IsMaskOf}
+use Rattle.byte_lanes.specs.Lanes.{IsMaskOf, SeesLanes, SetsLanes}
 use Rattle.byte_lanes.specs.Filtered.{IsMarked}
 use Rattle.byte_lanes.specs.PlacesAfter.{NoneWithin}
 
@@ -67,3 +67,38 @@ either_set P Q first one other of_one of_other k =
             | inr right ↦ let set = (of_other k).1 (l, right) in omega arith
           ],
     )
+
+-- the bits that both masks have stand for the ends that both tests pass
+pub both_set : (P Q : ℕ → Type 0) (first one other : ℕ) → IsMaskOf P first 64 one → IsMaskOf Q first 64 other → IsMaskOf (λ end. P end × Q end) first 64 (bit_and one other)
+both_set P Q first one other of_one of_other k =
+    let meet = bit_at_and one other k in
+    let small = bit_at-lt one k in
+    let small_other = bit_at-lt other k in (
+      λ s.
+          let left = (of_one k).0 (omega arith) in
+          let right = (of_other k).0 (omega arith) in
+          (left.0, (left.1, right.1)),
+      λ (l, (here, there)).
+          let left = (of_one k).1 (l, here) in
+          let right = (of_other k).1 (l, there) in
+          omega arith,
+    )
+
+-- one of 128 ends sets a lane of the four vectors of 32 ends
+pub set_in_four : (P : ℕ → Type 0) (answer : Type 0) (first : ℕ) (one two three four : List ℕ) → SetsLanes P first one → SetsLanes P (first + 32) two
+    → SetsLanes P (first + 64) three → SetsLanes P (first + 96) four → SeesLanes one answer → SeesLanes two answer → SeesLanes three answer → SeesLanes four answer
+    → (k : ℕ) → k < 128 → P (first + k) → answer
+set_in_four P answer first one two three four in_one in_two in_three in_four sees_one sees_two sees_three sees_four k l holds =
+    let later : (by : ℕ) → by ≤ k → P (first + by + (k - by)) =
+    λ by le. let same : first + k ≡ first + by + (k - by) = omega arith in subst P same holds in
+    let set : (lane : ℕ) → lane ≡ 255 → lane ≢ 0 = λ lane is none. absurd (omega (arith, is, none)) in
+    elim (cases_lt k 32) [
+      | inl low ↦ sees_one k low (set _ (in_one k low holds))
+      | inr from_32 ↦ elim (cases_lt k 64) [
+        | inl low ↦ sees_two (k - 32) (omega arith) (set _ (in_two (k - 32) (omega arith) (later 32 from_32)))
+        | inr from_64 ↦ elim (cases_lt k 96) [
+          | inl low ↦ sees_three (k - 64) (omega arith) (set _ (in_three (k - 64) (omega arith) (later 64 from_64)))
+          | inr from_96 ↦ sees_four (k - 96) (omega arith) (set _ (in_four (k - 96) (omega arith) (later 96 from_96)))
+        ]
+      ]
+    ]

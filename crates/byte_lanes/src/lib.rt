@@ -1,10 +1,12 @@
-//! Vectors of 32 bytes, lane by lane, and tests of many positions at once by them: the filter of a packed search over
-//! slices and in blocks of a text, by its tables in vectors. It knows no literals.
+//! Vectors of 32 bytes, lane by lane, and tests of many positions of a text at once by them: tests of the ends of
+//! literals, 64 or 128 at a time, by the tables of a filter or by bytes. It knows no literals. `filter`, `filter_wide`
+//! and `any_set` work on slices; no search calls them.
 //!
-//! Theorems: `filter` and `filter_wide` write the filter number of each position, for every length. `BlockFilter` returns
-//! the bits of the 64 positions that masks let pass. `skip_unmarked` passes no position that a test lets pass.
+//! Theorems: `skip_unmarked` passes no position that a test lets pass. `BlockFilter` returns the bits of the 64
+//! positions that masks let pass. `filter` and `filter_wide` write the filter number of each position, for each length.
 #![tactic(auto)]
 
+mod all_of;
 mod any_of;
 mod bits;
 mod block_filter;
@@ -21,6 +23,7 @@ mod tables;
 mod tuning;
 mod wide_lanes;
 
+pub use all_of::AllOf;
 pub use any_of::AnyOf;
 pub use bits::{below_bit, from_bit, split_lowest};
 pub use block_filter::BlockFilter;

@@ -5,7 +5,6 @@ ghost use Rattle.byte_lanes.specs.WideTables.{AreTablesOf};
 
 use crate::end_test::EndTest;
 use crate::plain;
-use crate::rare_look::Turn;
 use crate::tables::Tables;
 use nib_mask::ByteMasks;
 
@@ -46,16 +45,6 @@ impl<'a> EndTest for Nibbles<'a> {
     }
 
     fn local_law(&self, text: &[u8], longer: &[u8]) {}
-
-    #[inline(always)]
-    fn may_mark(&self, _text: &[u8], _first: usize) -> bool {
-        true
-    }
-
-    #[inline(always)]
-    fn may_hold(&self, _turn: Turn, _text: &[u8], _first: usize) -> bool {
-        true
-    }
 
     #[inline(always)]
     fn marks(&self, text: &[u8], first: usize) -> u64 {

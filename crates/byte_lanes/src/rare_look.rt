@@ -10,6 +10,17 @@ pub enum Turn {
     Third,
 }
 
+impl Turn {
+    /// The turn before. The first has none, and stays.
+    #[inline(always)]
+    pub(crate) fn before(self) -> Turn {
+        match self {
+            Turn::First | Turn::Second => Turn::First,
+            Turn::Third => Turn::Second,
+        }
+    }
+}
+
 /// Which byte is searched for alone, and its gain so far. The rarest byte of a text is mostly one of the three that are
 /// rare in usual text, but not always the first. So each has a turn, until one is rare.
 #[derive(Clone, Copy, Debug)]

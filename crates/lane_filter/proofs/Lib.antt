@@ -1,5 +1,4 @@
 pub mod EndLemmas
 pub mod HalfLemmas
-pub mod PairLemmas
+pub mod ByteLemmas
 pub mod Ranks
-pub mod TripleLemmas

@@ -1,8 +1,8 @@
 pub mod CursorViews
 pub mod Cursors
-pub mod OneBytes
 pub mod Pairs
 pub mod Prefilters
+pub mod RareBytes
 pub mod Triples
 pub use Rattle.byte_lanes.specs.Bits
 pub use Rattle.byte_lanes.specs.Filtered

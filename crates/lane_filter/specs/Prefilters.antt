@@ -6,11 +6,10 @@ use Rattle.nib_mask.specs.FilterSet.{filter_set}
 use Rattle.nib_mask.specs.Halves.{widened}
 use Rattle.nib_mask.specs.Tables.{table_value}
 use Rattle.nib_mask.specs.declared.byte_masks.ByteMasks.{ByteMasks}
-use Rattle.lane_filter.specs.OneBytes.{IsByteOf, IsEndOfByte}
-use Rattle.lane_filter.specs.Pairs.{IsPairEnd, IsPairOf}
-use Rattle.lane_filter.specs.Triples.{IsTripleEnd, IsTripleOf}
-use Rattle.lane_filter.specs.declared.pair.BytePair.{BytePair}
-use Rattle.lane_filter.specs.declared.triple.ByteTriple.{ByteTriple}
+use Rattle.lane_filter.specs.Pairs.{BytePair, IsPairEnd, IsPairOf}
+use Rattle.lane_filter.specs.RareBytes.{IsEndOfByte, IsOnlyByteOf}
+use Rattle.lane_filter.specs.Triples.{ByteTriple, IsTripleEnd, IsTripleOf}
+use Rattle.lane_filter.specs.declared.rare_byte.RareByte.{RareByte}
 use Rattle.lane_filter.specs.declared.prefilter.Prefilter.{Prefilter}
 use Rattle.lane_filter.specs.declared.prefilter.Prefilter.TheVariants.{Nibbles, TwoNibbles, OneByte, OneExactByte, OneTriple, OneExactTriple, TwoPairs, TwoExactPairs, ThreePairs, ThreeExactPairs}
 
@@ -35,18 +34,18 @@ GiveFilterSets l ends first last =
 abbrev pub Passes : Prefilter → List ℕ → ℕ → Type 0
 Passes (Nibbles masks) = IsCandidate (widened masks)
 Passes (TwoNibbles first last) = IsCandidateOfTwo first last
-Passes (OneByte one) = IsEndOfByte one.byte one.case_bit
-Passes (OneExactByte exact) = IsEndOfByte exact.byte 0
+Passes (OneByte one) = IsEndOfByte one
+Passes (OneExactByte exact) = IsEndOfByte exact.test
 Passes (OneTriple triple) = IsTripleEnd triple
-Passes (OneExactTriple exact) = IsTripleEnd exact.triple
+Passes (OneExactTriple exact) = IsTripleEnd exact.test
 Passes (TwoPairs any) = IsEndOfTwo any.one any.other
-Passes (TwoExactPairs any) = IsEndOfTwo any.one.pair any.other.pair
+Passes (TwoExactPairs any) = IsEndOfTwo any.one.test any.other.test
 Passes (ThreePairs any) = IsEndOfThree any.one any.other.one any.other.other
-Passes (ThreeExactPairs any) = IsEndOfThree any.one.pair any.other.one.pair any.other.other.pair
+Passes (ThreeExactPairs any) = IsEndOfThree any.one.test any.other.one.test any.other.other.test
 
--- the byte, with its bit of case, of the only literal
-abbrev pub IsOnlyByte : Literals → ℕ → ℕ → Type 0
-IsOnlyByte l byte bit = (length l.texts ≡ 1) × IsByteOf l 0 byte bit
+-- the byte of the only literal
+abbrev pub IsOnlyByte : Literals → RareByte → Type 0
+IsOnlyByte l one = (length l.texts ≡ 1) × IsOnlyByteOf l 0 one
 
 -- three bytes of the only literal
 abbrev pub IsOneTriple : Literals → ByteTriple → Type 0
@@ -64,11 +63,11 @@ AreThreePairs l one two three = (length l.texts ≡ 3) × IsPairOf l 0 one × Is
 abbrev pub IsPrefilterOf : Literals → List ℕ → Prefilter → Type 0
 IsPrefilterOf l ends (Nibbles masks) = GivesFilterSets l ends (widened masks)
 IsPrefilterOf l ends (TwoNibbles first last) = GiveFilterSets l ends first last
-IsPrefilterOf l ends (OneByte one) = IsOnlyByte l one.byte one.case_bit
-IsPrefilterOf l ends (OneExactByte exact) = IsOnlyByte l exact.byte 0
+IsPrefilterOf l ends (OneByte one) = IsOnlyByte l one
+IsPrefilterOf l ends (OneExactByte exact) = IsOnlyByte l exact.test
 IsPrefilterOf l ends (OneTriple triple) = IsOneTriple l triple
-IsPrefilterOf l ends (OneExactTriple exact) = IsOneTriple l exact.triple
+IsPrefilterOf l ends (OneExactTriple exact) = IsOneTriple l exact.test
 IsPrefilterOf l ends (TwoPairs any) = AreTwoPairs l any.one any.other
-IsPrefilterOf l ends (TwoExactPairs any) = AreTwoPairs l any.one.pair any.other.pair
+IsPrefilterOf l ends (TwoExactPairs any) = AreTwoPairs l any.one.test any.other.test
 IsPrefilterOf l ends (ThreePairs any) = AreThreePairs l any.one any.other.one any.other.other
-IsPrefilterOf l ends (ThreeExactPairs any) = AreThreePairs l any.one.pair any.other.one.pair any.other.other.pair
+IsPrefilterOf l ends (ThreeExactPairs any) = AreThreePairs l any.one.test any.other.one.test any.other.other.test

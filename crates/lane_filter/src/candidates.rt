@@ -15,7 +15,7 @@ use std::marker::Model;
 /// compared far before their ends, which is rare.
 const MOST_COPIED: usize = 128;
 
-/// 64 ends in a row, up to `done`: bit k of `mask` is set where `first + k` is a candidate.
+/// The candidates among the ends tested together, up to `done`: bit k of `mask` is set where `first + k` is one.
 #[derive(Clone, Copy)]
 struct EndBits {
     first: usize,
@@ -190,8 +190,8 @@ fn prefilter_bits(prefilter: &Prefilter, text: &[u8], from: usize) -> EndBits
     }
 }
 
-/// As `prefilter_bits`, by the tables of more than eight buckets. It stands alone because a function clears room for all its
-/// tables when it begins, and these take the most.
+/// As `prefilter_bits`, by the tables of more than eight buckets. It stands alone because a function clears room for
+/// all its tables when it begins, and these take the most.
 #[inline(never)]
 fn two_nibbles_bits(first: &ByteMasks, last: &ByteMasks, text: &[u8], from: usize) -> EndBits
     requires { from ≤ length text.now }

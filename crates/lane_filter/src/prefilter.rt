@@ -3,15 +3,14 @@ ghost use Rattle.std.specs.Prelude.{◌≡◌, ℕ, List, length};
 ghost use Rattle.lit_base.specs.Cuts.{IsCut};
 ghost use Rattle.lit_base.specs.Literals.{Literals};
 ghost use Rattle.nib_mask.specs.Candidates.{Covers, CoversBy, GivesFilterSets};
-ghost use Rattle.lane_filter.specs.OneBytes.{IsEndOfByte};
+ghost use Rattle.lane_filter.specs.RareBytes.{IsEndOfByte};
 ghost use Rattle.lane_filter.specs.Triples.{IsTripleEnd};
 ghost use Rattle.lane_filter.specs.Prefilters.{AreThreePairs, AreTwoPairs, IsEndOfThree, IsEndOfTwo, IsOneTriple, IsOnlyByte, IsPrefilterOf, Passes};
 
-use crate::exact_pair::ExactPair;
-use crate::exact_triple::ExactTriple;
-use crate::one_byte::{ExactByte, OneByte};
-use crate::pair::BytePair;
-use crate::triple::ByteTriple;
+use crate::exact::Exact;
+use crate::pair::{BytePair, pair_of};
+use crate::rare_byte::RareByte;
+use crate::triple::{ByteTriple, triple_of};
 use byte_lanes::AnyOf;
 use lit_base::{Ends, LitList};
 use nib_mask::{ByteMasks, Masks};
@@ -25,21 +24,21 @@ pub enum Prefilter {
     /// The tables of the first eight buckets, and the tables of the other buckets.
     TwoNibbles(ByteMasks, ByteMasks),
     /// The only byte of the only literal.
-    OneByte(OneByte),
+    OneByte(RareByte),
     /// The only byte of the only literal, case-sensitive.
-    OneExactByte(ExactByte),
+    OneExactByte(Exact<RareByte>),
     /// Three bytes of the only literal.
     OneTriple(ByteTriple),
     /// Three bytes of the only literal, case-sensitive.
-    OneExactTriple(ExactTriple),
+    OneExactTriple(Exact<ByteTriple>),
     /// Two bytes of each of two literals.
     TwoPairs(AnyOf<BytePair, BytePair>),
     /// Two bytes of each of two literals, case-sensitive.
-    TwoExactPairs(AnyOf<ExactPair, ExactPair>),
+    TwoExactPairs(AnyOf<Exact<BytePair>, Exact<BytePair>>),
     /// Two bytes of each of three literals.
     ThreePairs(AnyOf<BytePair, AnyOf<BytePair, BytePair>>),
     /// Two bytes of each of three literals, case-sensitive.
-    ThreeExactPairs(AnyOf<ExactPair, AnyOf<ExactPair, ExactPair>>),
+    ThreeExactPairs(AnyOf<Exact<BytePair>, AnyOf<Exact<BytePair>, Exact<BytePair>>>),
 }
 
 impl Prefilter {
@@ -50,16 +49,12 @@ impl Prefilter {
         ensures covers { CoversBy list.now (Passes result) }
     {
         match list.len() {
-            1 => match OneByte::of(list, 0) {
+            1 => match RareByte::only_of(list, 0) {
                 Some(byte) => Prefilter::of_byte(byte),
-                None => Prefilter::of_one(ByteTriple::of(list, 0)),
+                None => Prefilter::of_one(triple_of(list, 0)),
             },
-            2 => Prefilter::of_two(BytePair::of(list, 0), BytePair::of(list, 1)),
-            3 => Prefilter::of_three(
-                BytePair::of(list, 0),
-                BytePair::of(list, 1),
-                BytePair::of(list, 2),
-            ),
+            2 => Prefilter::of_two(pair_of(list, 0), pair_of(list, 1)),
+            3 => Prefilter::of_three(pair_of(list, 0), pair_of(list, 1), pair_of(list, 2)),
             _ => Prefilter::of_masks(&Masks::of(list, ends), ends.len()),
         }
     }
@@ -79,12 +74,11 @@ impl Prefilter {
     }
 
     /// By the only byte of the only literal.
-    fn of_byte(one: OneByte) -> Prefilter
-        ensures prefilter { (l : Literals) (ends : List ℕ) → IsOnlyByte l one.byte one.case_bit → IsPrefilterOf l ends result }
-        ensures passes { (text : List ℕ) (end : ℕ) → IsEndOfByte one.byte one.case_bit text end
-            → Passes result text end }
+    fn of_byte(one: RareByte) -> Prefilter
+        ensures prefilter { (l : Literals) (ends : List ℕ) → IsOnlyByte l one → IsPrefilterOf l ends result }
+        ensures passes { (text : List ℕ) (end : ℕ) → IsEndOfByte one text end → Passes result text end }
     {
-        match ExactByte::of(one) {
+        match Exact::of(one) {
             Some(exact) => Prefilter::OneExactByte(exact),
             None => Prefilter::OneByte(one),
         }
@@ -95,7 +89,7 @@ impl Prefilter {
         ensures prefilter { (l : Literals) (ends : List ℕ) → IsOneTriple l triple → IsPrefilterOf l ends result }
         ensures passes { (text : List ℕ) (end : ℕ) → IsTripleEnd triple text end → Passes result text end }
     {
-        match ExactTriple::of(triple) {
+        match Exact::of(triple) {
             Some(exact) => Prefilter::OneExactTriple(exact),
             None => Prefilter::OneTriple(triple),
         }
@@ -107,7 +101,7 @@ impl Prefilter {
         ensures passes { (text : List ℕ) (end : ℕ) → IsEndOfTwo one two text end
             → Passes result text end }
     {
-        match (ExactPair::of(one), ExactPair::of(two)) {
+        match (Exact::of(one), Exact::of(two)) {
             (Some(one), Some(two)) => Prefilter::TwoExactPairs(AnyOf::new(one, two)),
             _ => Prefilter::TwoPairs(AnyOf::new(one, two)),
         }
@@ -120,7 +114,7 @@ impl Prefilter {
         ensures passes { (text : List ℕ) (end : ℕ) → IsEndOfThree one two three text end
             → Passes result text end }
     {
-        match (ExactPair::of(one), ExactPair::of(two), ExactPair::of(three)) {
+        match (Exact::of(one), Exact::of(two), Exact::of(three)) {
             (Some(one), Some(two), Some(three)) => {
                 Prefilter::ThreeExactPairs(AnyOf::new(one, AnyOf::new(two, three)))
             }

@@ -1,6 +1,6 @@
 -- Where all places were tried, the one found is outside the pair if there are three.
 use Rattle.std.proofs.Common.{length, subst, arith}
-use Rattle.lane_filter.proofs.TripleLemmas.{IsBesidePair, third_apart}
+use Rattle.lane_filter.proofs.Ranks.{IsBesidePair, third_apart}
 use Rattle.lane_filter.proofs.triple.rarest_beside.Goals as goal
 
 pub returns-clause-apart : goal.returns-clause-apart

@@ -1,6 +1,6 @@
 -- The place found is one of the last, and outside the pair where one tried is.
 use Rattle.std.proofs.Common.{◌+◌, ◌<◌, ◌≤◌, length}
-use Rattle.lane_filter.proofs.TripleLemmas.{IsBesidePair}
+use Rattle.lane_filter.proofs.Ranks.{IsBesidePair}
 use Rattle.lane_filter.proofs.triple.rarest_beside.Given as goal
 
 abbrev pub invariant-loop-place : goal.invariant-loop-place

@@ -20,17 +20,17 @@ returns-in-Some-clause-prefilter c =
 
 pub returns-in-None-clause-prefilter : goal.returns-in-None-clause-prefilter
 returns-in-None-clause-prefilter c =
-    c.of_one.ensures.prefilter c.args.list.now c.args.ends.now.items (omega (arith, c.in-1.is, c.len.ensures.value), c.of-in-None.ensures.triple)
+    c.of_one.ensures.prefilter c.args.list.now c.args.ends.now.items (omega (arith, c.in-1.is, c.len.ensures.value), c.triple_of.ensures.triple)
 
 pub returns-in-2-clause-prefilter : goal.returns-in-2-clause-prefilter
 returns-in-2-clause-prefilter c =
     c.of_two.ensures.prefilter c.args.list.now c.args.ends.now.items
-    (omega (arith, c.in-2.is, c.len.ensures.value), c.of-in-2.ensures.pair, c.of-in-2-2.ensures.pair)
+    (omega (arith, c.in-2.is, c.len.ensures.value), c.pair_of.ensures.pair, c.pair_of-in-2.ensures.pair)
 
 pub returns-in-3-clause-prefilter : goal.returns-in-3-clause-prefilter
 returns-in-3-clause-prefilter c =
     c.of_three.ensures.prefilter c.args.list.now c.args.ends.now.items
-    (omega (arith, c.in-3.is, c.len.ensures.value), c.of-in-3.ensures.pair, c.of-in-3-2.ensures.pair, c.of-in-3-3.ensures.pair)
+    (omega (arith, c.in-3.is, c.len.ensures.value), c.pair_of-in-3.ensures.pair, c.pair_of-in-3-2.ensures.pair, c.pair_of-in-3-3.ensures.pair)
 
 pub returns-in-Some-clause-covers : goal.returns-in-Some-clause-covers
 returns-in-Some-clause-covers c text place end _ occurs =
@@ -44,15 +44,15 @@ returns-in-None-clause-covers c text place end _ occurs =
     let l = c.args.list.now in
     let within = inside l text place end occurs in
     c.of_one.ensures.passes text end
-    (c.of-in-None.ensures.stands text end (occurs_at l text place 0 end (omega (arith, within, c.in-1.is, c.len.ensures.value)) occurs))
+    (c.triple_of.ensures.stands text end (occurs_at l text place 0 end (omega (arith, within, c.in-1.is, c.len.ensures.value)) occurs))
 
 pub returns-in-2-clause-covers : goal.returns-in-2-clause-covers
 returns-in-2-clause-covers c text place end _ occurs =
     let l = c.args.list.now in
     let within = inside l text place end occurs in
     c.of_two.ensures.passes text end (elim (cases_eq place 0) [
-      | inl same ↦ inl (c.of-in-2.ensures.stands text end (occurs_at l text place 0 end same occurs))
-      | inr other ↦ inr (c.of-in-2-2.ensures.stands text end (occurs_at l text place 1 end (omega (arith, within, other, c.in-2.is, c.len.ensures.value)) occurs))
+      | inl same ↦ inl (c.pair_of.ensures.stands text end (occurs_at l text place 0 end same occurs))
+      | inr other ↦ inr (c.pair_of-in-2.ensures.stands text end (occurs_at l text place 1 end (omega (arith, within, other, c.in-2.is, c.len.ensures.value)) occurs))
     ])
 
 pub returns-in-3-clause-covers : goal.returns-in-3-clause-covers
@@ -60,16 +60,16 @@ returns-in-3-clause-covers c text place end _ occurs =
     let l = c.args.list.now in
     let within = inside l text place end occurs in
     c.of_three.ensures.passes text end (elim (cases_eq place 0) [
-      | inl same ↦ inl (c.of-in-3.ensures.stands text end (occurs_at l text place 0 end same occurs))
+      | inl same ↦ inl (c.pair_of-in-3.ensures.stands text end (occurs_at l text place 0 end same occurs))
       | inr not_first ↦ elim (cases_eq place 1) [
-        | inl same ↦ inr (inl (c.of-in-3-2.ensures.stands text end (occurs_at l text place 1 end same occurs)))
-        | inr other ↦ inr (inr (c.of-in-3-3.ensures.stands text end (occurs_at l text place 2 end (omega (arith, within, not_first, other, c.in-3.is, c.len.ensures.value)) occurs)))
+        | inl same ↦ inr (inl (c.pair_of-in-3-2.ensures.stands text end (occurs_at l text place 1 end same occurs)))
+        | inr other ↦ inr (inr (c.pair_of-in-3-3.ensures.stands text end (occurs_at l text place 2 end (omega (arith, within, not_first, other, c.in-3.is, c.len.ensures.value)) occurs)))
       ]
     ])
 
 pub returns-in_default-clause-prefilter : goal.returns-in_default-clause-prefilter
-returns-in_default-clause-prefilter c = c.of_masks.ensures.prefilter c.args.list.now c.args.ends.now.items (sym c.len-in_default.ensures.value) c.of-in_default.ensures.set
+returns-in_default-clause-prefilter c = c.of_masks.ensures.prefilter c.args.list.now c.args.ends.now.items (sym c.len-in_default.ensures.value) c.of.ensures.set
 
 pub returns-in_default-clause-covers : goal.returns-in_default-clause-covers
 returns-in_default-clause-covers c =
-    c.of_masks.ensures.passes c.args.list.now c.args.ends.now.items (sym c.len-in_default.ensures.value) c.of-in_default.ensures.set c.of-in_default.ensures.covers
+    c.of_masks.ensures.passes c.args.list.now c.args.ends.now.items (sym c.len-in_default.ensures.value) c.of.ensures.set c.of.ensures.covers

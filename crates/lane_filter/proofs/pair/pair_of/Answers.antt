@@ -1,7 +1,7 @@
 use Rattle.std.proofs.lemmas.Option.{slice_get_read}
 use Rattle.std.proofs.Common.{refl}
-use Rattle.lane_filter.proofs.PairLemmas.{pair_stands}
-use Rattle.lane_filter.proofs.pair.BytePair.of.Goals as goal
+use Rattle.lane_filter.proofs.ByteLemmas.{pair_stands}
+use Rattle.lane_filter.proofs.pair.pair_of.Goals as goal
 
 pub returns-clause-pair : goal.returns-clause-pair
 returns-clause-pair c =
