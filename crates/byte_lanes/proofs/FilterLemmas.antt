@@ -6,14 +6,16 @@ use Rattle.std.proofs.lemmas.Nat.Bits.{bit_at-zero, bit_at_or, same_from_bits}
 use Rattle.std.proofs.lemmas.List.{get_or_past, get_or_append_left, get_or-append_right}
 use Rattle.nib_mask.specs.declared.masks.Masks.{Masks}
 use Rattle.nib_mask.specs.Tables.{value_at, table_value}
+use Rattle.byte_lanes.specs.Filtered.{value_from}
 use Rattle.byte_lanes.specs.Lanes.{HasLanes, HoldsBelow}
 use Rattle.std.specs.Simd.Lanes.{put_chunk}
 use Rattle.std.proofs.lemmas.Simd.{get_or-put_chunk_below, get_or-put_chunk_at}
 use Rattle.byte_lanes.proofs.LaneLemmas.{lanes_named}
 
 -- two vectors, one after the other, hold 64 numbers
-pub joined_lanes : (prefix back : List ℕ) (f : ℕ → ℕ) → HasLanes prefix f → HasLanes back (λ k. f (32 + k)) → (k : ℕ) → k < 64 → get_or (prefix ++ back) k 0 ≡ f k
-joined_lanes prefix back f p q k l =
+pub joined_lanes : (prefix back : List ℕ) (f : ℕ → ℕ) (at : ℕ) → HasLanes prefix (λ k. f (at + k)) → HasLanes back (λ k. f (at + 32 + k)) → (k : ℕ) → k < 64
+    → get_or (prefix ++ back) k 0 ≡ f (at + k)
+joined_lanes prefix back f at p q k l =
     let long_prefix = p.long in
     let long_back = q.long in
     ⊎_elim (λ low. get_or_append_left prefix back 0 k (omega arith) ∙ p.each k low)
@@ -21,14 +23,14 @@ joined_lanes prefix back f p q k l =
     (cases_lt k 32)
 
 -- the bits of nonzero lanes stand for 64 positions
-pub set_by_lanes : (prefix back : List ℕ) (f : ℕ → ℕ) (mask : ℕ) → HasLanes prefix f → HasLanes back (λ k. f (32 + k))
-    → ((k : ℕ) → (bit_at mask k ≡ 1) ↔ (get_or (prefix ++ back) k 0 ≢ 0)) → (k : ℕ) → (bit_at mask k ≡ 1) ↔ ((k < 64) × (f k ≢ 0))
-set_by_lanes prefix back f mask p q bits k =
+pub set_by_lanes : (prefix back : List ℕ) (f : ℕ → ℕ) (at mask : ℕ) → HasLanes prefix (λ k. f (at + k)) → HasLanes back (λ k. f (at + 32 + k))
+    → ((k : ℕ) → (bit_at mask k ≡ 1) ↔ (get_or (prefix ++ back) k 0 ≢ 0)) → (k : ℕ) → (bit_at mask k ≡ 1) ↔ ((k < 64) × (f (at + k) ≢ 0))
+set_by_lanes prefix back f at mask p q bits k =
     let long_prefix = p.long in
     let long_back = q.long in
     let past : 64 ≤ k → get_or (prefix ++ back) k 0 ≡ 0 = λ h. get_or_past (prefix ++ back) k 0 (omega (arith, length-append prefix back)) in
     ⊎_elim (λ l.
-    let same = joined_lanes prefix back f p q k l in
+    let same = joined_lanes prefix back f at p q k l in
     (λ set. (l, λ none. (bits k).0 set (same ∙ none)), λ h. (bits k).1 (λ none. h.1 (sym same ∙ none))))
     (λ high. (λ set. absurd ((bits k).0 set (past high)), λ h. absurd (omega (arith, h.0))))
     (cases_lt k 64)
@@ -42,17 +44,17 @@ or_none a b none =
     )
 
 -- where no lane of both vectors joined is set, the mask without bits is right for the 64 positions
-pub none_set : (prefix back joined : List ℕ) (f : ℕ → ℕ) → HasLanes prefix f → HasLanes back (λ k. f (32 + k))
+pub none_set : (prefix back joined : List ℕ) (f : ℕ → ℕ) (at : ℕ) → HasLanes prefix (λ k. f (at + k)) → HasLanes back (λ k. f (at + 32 + k))
     → HasLanes joined (λ k. bit_or (get_or prefix k 0) (get_or back k 0)) → ((k : ℕ) → k < 32 → ¬ (get_or joined k 0 ≢ 0))
-    → (k : ℕ) → (bit_at 0 k ≡ 1) ↔ ((k < 64) × (f k ≢ 0))
-none_set prefix back joined f p q h none k = (
+    → (k : ℕ) → (bit_at 0 k ≡ 1) ↔ ((k < 64) × (f (at + k) ≢ 0))
+none_set prefix back joined f at p q h none k = (
   λ s. absurd (omega (arith, s, bit_at-zero k)),
   λ (l, some).
       elim (cases_lt k 32) [
         | inl low ↦ absurd (none k low (λ zero. some (sym (p.each k low) ∙ (or_none _ _ (sym (h.each k low) ∙ zero)).0)))
         | inr high ↦
             let low : k - 32 < 32 = omega arith in
-            let place : 32 + (k - 32) ≡ k = omega arith in
+            let place : at + 32 + (k - 32) ≡ at + k = omega arith in
             absurd (none (k - 32) low (λ zero. some (ap f (sym place) ∙ sym (q.each (k - 32) low) ∙ (or_none _ _ (sym (h.each (k - 32) low) ∙ zero)).1)))
       ],
 )
@@ -73,14 +75,14 @@ lanes_by_tables masks a b c p q f r h =
     lanes_named _ h (λ k l i. bit_and ((f.each k l ∙ (λ j. bit_and (p.each k l j) (q.each k l j))) i) (r.each k l i))
 
 -- what loads at three places in a row give the lanes
-pub lanes_of_loads : (masks : Masks) (text : List ℕ) (place : ℕ → ℕ) {a b c v : List ℕ} (i j n : ℕ) → HasLanes a (λ k. get_or text (i + k) 0)
-    → HasLanes b (λ k. get_or text (j + k) 0) → HasLanes c (λ k. get_or text (n + k) 0)
-    → ((k : ℕ) → i + k ≡ place k) → ((k : ℕ) → j + k ≡ place k + 1) → ((k : ℕ) → n + k ≡ place k + 2)
-    → HasLanes v (λ k. table_value masks (get_or a k 0) (get_or b k 0) (get_or c k 0))
-    → HasLanes v (λ k. table_value masks (get_or text (place k) 0) (get_or text (place k + 1) 0) (get_or text (place k + 2) 0))
-lanes_of_loads masks text place i j n p q r at at1 at2 h =
-    lanes_named _ h (λ k l m. table_value masks ((p.each k l ∙ ap (λ x. get_or text x 0) (at k)) m)
-    ((q.each k l ∙ ap (λ x. get_or text x 0) (at1 k)) m) ((r.each k l ∙ ap (λ x. get_or text x 0) (at2 k)) m))
+pub lanes_of_loads : (masks : Masks) (text : List ℕ) (at : ℕ) {a b c v : List ℕ} → HasLanes a (λ k. get_or text (at + k) 0)
+    → HasLanes b (λ k. get_or text (at + 1 + k) 0) → HasLanes c (λ k. get_or text (at + 2 + k) 0)
+    → HasLanes v (λ k. table_value masks (get_or a k 0) (get_or b k 0) (get_or c k 0)) → HasLanes v (λ k. value_from masks text (at + k))
+lanes_of_loads masks text at p q r h =
+    lanes_named _ h (λ k l i.
+    let second : at + 1 + k ≡ at + k + 1 = omega arith in
+    let last : at + 2 + k ≡ at + k + 2 = omega arith in
+    table_value masks (p.each k l i) ((q.each k l ∙ ap (λ x. get_or text x 0) second) i) ((r.each k l ∙ ap (λ x. get_or text x 0) last) i))
 
 -- what loads from three slices at one place give the lanes
 pub lanes_of_slices : (masks : Masks) (x0 x1 x2 : List ℕ) (at : ℕ) {a b c v : List ℕ} → HasLanes a (λ k. get_or x0 (at + k) 0)

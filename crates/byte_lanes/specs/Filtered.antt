@@ -14,7 +14,11 @@ pub record IsFiltered (masks : Masks) (x0 x1 x2 out : List ℕ) : Type 0 where
   pub long : length out ≡ length x0
   pub each : IsFilteredBelow masks x0 x1 x2 (length x0) out
 
--- the filter number of the three bytes from a position of the text on is not zero
+-- the filter number of the three bytes from a position of the text on
+abbrev pub value_from : Masks → List ℕ → ℕ → ℕ
+value_from masks text place =
+    table_value masks (slice_index text place) (slice_index text (place + 1)) (slice_index text (place + 2))
+
+-- it is not zero
 abbrev pub IsMarked : Masks → List ℕ → ℕ → Type 0
-IsMarked masks text place =
-    table_value masks (slice_index text place) (slice_index text (place + 1)) (slice_index text (place + 2)) ≢ 0
+IsMarked masks text place = value_from masks text place ≢ 0

@@ -1,5 +1,5 @@
 //! Positions of a text up to which no literal can end, found by 128 ends at once.
-ghost use Rattle.std.specs.Prelude.{◌+◌, ◌≤◌, length};
+ghost use Rattle.std.specs.Prelude.{ℕ, ◌+◌, ◌<◌, ◌≤◌, IsTrue, length};
 ghost use Rattle.byte_lanes.specs.PlacesAfter.{NoneWithin};
 
 use crate::end_test::EndTest;
@@ -23,7 +23,7 @@ pub fn skip_unmarked<T: EndTest>(test: &T, text: &[u8], from: usize) -> usize
     } else {
         text.len()
     };
-    let seen = skip_by_all(test, text, from, near);
+    let seen = skip_blocks(test, None, text, from, near);
     // Called once more so that the compiler drops it for a test that always returns true, like the test by tables.
     if near - seen >= BLOCK || text.len() - seen < BLOCK || test.may_mark(text, seen + 1) {
         return seen;
@@ -45,13 +45,13 @@ fn skip_far<T: EndTest>(test: &T, text: &[u8], from: usize) -> usize
     let mut look = RareLook::new();
     let mut seen = from;
     while text.len() - seen >= BLOCK {
-        let stop = skip_without(test, look.turn(), text, seen);
+        let stop = skip_blocks(test, Some(look.turn()), text, seen, text.len());
         if text.len() - stop < BLOCK {
             return stop;
         }
         look.note((stop - seen) / BLOCK);
         let to = text.len().min((stop + BLOCK).saturating_add(look.wait()));
-        seen = skip_by_all(test, text, stop, to);
+        seen = skip_blocks(test, None, text, stop, to);
         if to - seen >= BLOCK {
             return seen;
         }
@@ -59,9 +59,16 @@ fn skip_far<T: EndTest>(test: &T, text: &[u8], from: usize) -> usize
     seen
 }
 
-/// A position up to which there is no candidate after `from`, at most `to`, by all bytes that the test reads.
+/// A position up to which there is no candidate after `from`, at most `to`: by one byte of each literal, or by all bytes
+/// that the test reads. LLVM makes a loop of each turn.
 #[inline(always)]
-fn skip_by_all<T: EndTest>(test: &T, text: &[u8], from: usize, to: usize) -> usize
+fn skip_blocks<T: EndTest>(
+    test: &T,
+    turn: Option<Turn>,
+    text: &[u8],
+    from: usize,
+    to: usize,
+) -> usize
     requires after { T.reaches test.now ≤ from + 1 }
     requires ordered { from ≤ to }
     requires inside { to ≤ length text.now }
@@ -70,24 +77,21 @@ fn skip_by_all<T: EndTest>(test: &T, text: &[u8], from: usize, to: usize) -> usi
     ensures quiet { NoneWithin (T.candidate test.now text.now) from result }
 {
     let mut seen = from;
-    while to - seen >= BLOCK && !test.may_mark(text, seen + 1) {
+    while to - seen >= BLOCK && !may_end(test, turn, text, seen + 1) {
         seen += BLOCK;
     }
     seen
 }
 
-/// A position up to which one byte of each literal rules out a candidate after `from`. LLVM makes a loop of each turn.
+/// Whether an occurrence may end at one of 128 positions, by one byte of each literal or by all.
 #[inline(always)]
-fn skip_without<T: EndTest>(test: &T, turn: Turn, text: &[u8], from: usize) -> usize
-    requires after { T.reaches test.now ≤ from + 1 }
-    requires within { from ≤ length text.now }
-    ensures after { from ≤ result }
-    ensures within { result ≤ length text.now }
-    ensures quiet { NoneWithin (T.candidate test.now text.now) from result }
+fn may_end<T: EndTest>(test: &T, turn: Option<Turn>, text: &[u8], first: usize) -> bool
+    requires after { T.reaches test.now ≤ first }
+    requires within { first + 127 ≤ length text.now }
+    ensures { (k : ℕ) → k < 128 → T.candidate test.now text.now (first + k) → IsTrue result }
 {
-    let mut seen = from;
-    while text.len() - seen >= BLOCK && !test.may_hold(turn, text, seen + 1) {
-        seen += BLOCK;
+    match turn {
+        Some(turn) => test.may_hold(turn, text, first),
+        None => test.may_mark(text, first),
     }
-    seen
 }

@@ -25,7 +25,7 @@ pub(crate) struct Tables {
 impl Tables {
     ghost use Rattle.nib_mask.specs.Halves.{widened};
     ghost use Rattle.byte_lanes.specs.WideTables.{AreTablesOf};
-    ghost use Rattle.byte_lanes.specs.Filtered.{IsMarked};
+    ghost use Rattle.byte_lanes.specs.Filtered.{IsMarked, value_from};
 
     #[inline(always)]
     pub(crate) fn of(masks: &ByteMasks) -> Tables
@@ -55,18 +55,23 @@ impl Tables {
         both(prefix, entries(self.last_low, self.last_high, last))
     }
 
+    /// The filter byte of each three bytes that stand in a row from one of 32 positions on.
+    #[inline(always)]
+    fn filter_at(&self, text: &[u8], at: usize) -> u8x32
+        requires { at + 34 ≤ length text.now }
+        ensures { (masks : Masks) → AreTablesOf masks self.now → HasLanes result (λ k. value_from masks text.now (at + k)) }
+    {
+        self.filter(load(text, at), load(text, at + 1), load(text, at + 2))
+    }
+
     /// The positions among 64 at which the filter byte of the three bytes from there on is not zero.
     #[inline(always)]
     pub(crate) fn marks(&self, text: &[u8], at: usize) -> u64
         requires { at + 66 ≤ length text.now }
         ensures { (masks : Masks) → AreTablesOf masks self.now → IsMaskOf (IsMarked masks text.now) at 64 result }
     {
-        let prefix = self.filter(load(text, at), load(text, at + 1), load(text, at + 2));
-        let back = self.filter(
-            load(text, at + 32),
-            load(text, at + 33),
-            load(text, at + 34),
-        );
+        let prefix = self.filter_at(text, at);
+        let back = self.filter_at(text, at + 32);
         // To see so that no lane is set costs less than 64 bits. Measured: a text without matches is searched 1.08
         // times as fast, a text with a candidate in every second block at most a twentieth slower.
         if !any_lane(either(prefix, back)) {

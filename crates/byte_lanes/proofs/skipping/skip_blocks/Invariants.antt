@@ -1,6 +1,6 @@
 use Rattle.std.proofs.Common.{◌≤◌, ◌-◌}
 use Rattle.byte_lanes.specs.PlacesAfter.{NoneWithin}
-use Rattle.byte_lanes.proofs.skipping.skip_by_all.Given as goal
+use Rattle.byte_lanes.proofs.skipping.skip_blocks.Given as goal
 
 abbrev pub invariant-loop-seen : goal.invariant-loop-seen
 invariant-loop-seen g l = (l.from ≤ l.seen) × (l.seen ≤ l.to) × NoneWithin (g.T.EndTest.candidate l.test l.text) l.from l.seen
