@@ -22,22 +22,15 @@ ended f b xs start place end from up_to past at_once now =
       | inr some ↦ let last : end ≡ place = omega (arith, up_to some) in ap (λ k. f (slice_range xs start k)) last ∙ now
     ]
 
--- a range with one more literal
-all_more : {X : Type 0} (p : X → Bool) (xs : List X) (start place : ℕ) (x : X) → start ≤ place → place < length xs → x ≡ get_or xs place x → list_all p (slice_range xs start (place + 1)) ≡ (list_all p (slice_range xs start place) && p x)
-all_more p xs start place x from inside is =
+-- a range with one more literal, where a test of prefixes takes one more
+more : {X : Type 0} (f : List X → Bool) (with_one : Bool → X → Bool) → ((xs : List X) (i : ℕ) (d : X) → i < length xs → f (take (i + 1) xs) ≡ with_one (f (take i xs)) (get_or xs i d))
+    → (xs : List X) (start place : ℕ) (x : X) → start ≤ place → place < length xs → x ≡ get_or xs place x → f (slice_range xs start (place + 1)) ≡ with_one (f (slice_range xs start place)) x
+more f with_one step xs start place x from inside is =
     let size : place + 1 - start ≡ place - start + 1 = omega arith in
     let at : start + (place - start) ≡ place = omega arith in
-    ap (λ n. list_all p (take n (drop start xs))) size
-    ∙ list_all_more p (drop start xs) (place - start) x (omega (arith, length-drop start xs))
-    ∙ ap (λ y. list_all p (slice_range xs start place) && p y) (get_or-drop start xs (place - start) x ∙ ap (λ k. get_or xs k x) at ∙ sym is)
-
-any_more : {X : Type 0} (p : X → Bool) (xs : List X) (start place : ℕ) (x : X) → start ≤ place → place < length xs → x ≡ get_or xs place x → list_any p (slice_range xs start (place + 1)) ≡ (list_any p (slice_range xs start place) || p x)
-any_more p xs start place x from inside is =
-    let size : place + 1 - start ≡ place - start + 1 = omega arith in
-    let at : start + (place - start) ≡ place = omega arith in
-    ap (λ n. list_any p (take n (drop start xs))) size
-    ∙ list_any_more p (drop start xs) (place - start) x (omega (arith, length-drop start xs))
-    ∙ ap (λ y. list_any p (slice_range xs start place) || p y) (get_or-drop start xs (place - start) x ∙ ap (λ k. get_or xs k x) at ∙ sym is)
+    ap (λ n. f (take n (drop start xs))) size
+    ∙ step (drop start xs) (place - start) x (omega (arith, length-drop start xs))
+    ∙ ap (with_one (f (slice_range xs start place))) (get_or-drop start xs (place - start) x ∙ ap (λ k. get_or xs k x) at ∙ sym is)
 
 module _ (position : ℕ) (texts : List (List ℕ)) (start : ℕ) where
   -- no literal fails to reach the position where there is none
@@ -49,7 +42,7 @@ module _ (position : ℕ) (texts : List (List ℕ)) (start : ℕ) where
   pub is_used-more : (place : ℕ) (literal : List ℕ) → start ≤ place → place < length texts → literal ≡ get_or texts place literal → is_used position (slice_range texts start place) ≡ true → reaches position literal ≡ true → is_used position (slice_range texts start (place + 1)) ≡ true
   unfolding is_used
   is_used-more place literal from inside is before here =
-      all_more (reaches position) texts start place literal from inside is ∙ (λ i. before i && here i)
+      more (list_all (reaches position)) (λ b t. b && reaches position t) (list_all_more (reaches position)) texts start place literal from inside is ∙ (λ i. before i && here i)
 
   -- one literal that does not
   pub is_used-not : (end place : ℕ) (literal : List ℕ) → start ≤ place → place < end → end ≤ length texts → literal ≡ get_or texts place literal → reaches position literal ≡ false → is_used position (slice_range texts start end) ≡ false
@@ -71,7 +64,9 @@ module _ (position : ℕ) (texts : List (List ℕ)) (start : ℕ) where
     -- one more literal
     pub shares_half-more : (place : ℕ) (literal : List ℕ) → start ≤ place → place < length texts → literal ≡ get_or texts place literal → shares_half fold position half value (slice_range texts start (place + 1)) ≡ (shares_half fold position half value (slice_range texts start place) || has_half fold position half value literal)
     unfolding shares_half
-    shares_half-more place literal from inside is = any_more (has_half fold position half value) texts start place literal from inside is
+    shares_half-more place literal from inside is =
+        let has : List ℕ → Bool = has_half fold position half value in
+        more (list_any has) (λ b t. b || has t) (list_any_more has) texts start place literal from inside is
 
     -- all literals up to where a loop over them ended, with the last place or at once
     pub shares_half-ended : (place end : ℕ) → start ≤ place → (start ≤ end → place ≤ end) → (end ≤ start → place ≤ start) → end ≤ place → shares_half fold position half value (slice_range texts start place) ≡ shares_half fold position half value (slice_range texts start end)

@@ -19,7 +19,7 @@ use Rattle.nib_mask.specs.Prefixes.{CoversPrefixes, KeepsPrefixes, prefix_at, ke
 use Rattle.nib_mask.specs.Tables.{table_value, value_at}
 use Rattle.nib_mask.proofs.HalfLemmas.{has_half-long}
 use Rattle.nib_mask.proofs.LawLemmas.{Agrees, agrees-occurs, has_half-agrees}
-use Rattle.nib_mask.proofs.TableLemmas.{padded-lt}
+use Rattle.nib_mask.proofs.TableLemmas.{HaveEntries, padded-lt}
 
 -- a list of one prefix alone
 abbrev alone : Fold → List ℕ → Literals
@@ -62,15 +62,6 @@ prefix_halves fold position byte value half prefix long is keeps =
       | inr other ↦ inr (eqb-true _ _ other)
     ]
 
--- the six tables have the bits of all prefixes
-pub record HavePrefixes (l : Literals) (count : ℕ) (offsets buckets : List ℕ) (masks : Masks) : Type 0 where
-  pub low_0 : (value : ℕ) → value < 16 → KeepsPrefixes l count offsets buckets 0 Low value (get_or (get_or masks.low 0 []) value 0)
-  pub low_1 : (value : ℕ) → value < 16 → KeepsPrefixes l count offsets buckets 1 Low value (get_or (get_or masks.low 1 []) value 0)
-  pub low_2 : (value : ℕ) → value < 16 → KeepsPrefixes l count offsets buckets 2 Low value (get_or (get_or masks.low 2 []) value 0)
-  pub high_0 : (value : ℕ) → value < 16 → KeepsPrefixes l count offsets buckets 0 High value (get_or (get_or masks.high 0 []) value 0)
-  pub high_1 : (value : ℕ) → value < 16 → KeepsPrefixes l count offsets buckets 1 High value (get_or (get_or masks.high 1 []) value 0)
-  pub high_2 : (value : ℕ) → value < 16 → KeepsPrefixes l count offsets buckets 2 High value (get_or (get_or masks.high 2 []) value 0)
-
 -- two numbers with a bit agree on it
 both_bits : (a b bit : ℕ) → bit_at a bit ≡ 1 → bit_at b bit ≡ 1 → bit_at (bit_and a b) bit ≡ 1
 both_bits a b bit one other = omega (arith, bit_at_and a b bit, one, other)
@@ -88,7 +79,7 @@ prefix-value l count offsets buckets masks position byte place small counted low
     (high (byte / 16) (omega arith) place counted (prefix-kept l.folding position byte High prefix agrees))
 
 -- so no occurrence goes past the tables by its prefix
-pub covers_prefixes : (l : Literals) (count : ℕ) (offsets buckets : List ℕ) (masks : Masks) → HavePrefixes l count offsets buckets masks → CoversPrefixes l count offsets masks
+pub covers_prefixes : (l : Literals) (count : ℕ) (offsets buckets : List ℕ) (masks : Masks) → HaveEntries (KeepsPrefixes l count offsets buckets) masks → CoversPrefixes l count offsets masks
 unfolding table_value
 covers_prefixes l count offsets buckets masks have text place end bytes counted short occurs =
     let offset : ℕ = get_or offsets place 0 in

@@ -12,25 +12,25 @@ use Rattle.lit_base.specs.Occurrences.{Occurs}
 use Rattle.nib_mask.specs.declared.half.Half.{Half}
 use Rattle.nib_mask.specs.declared.half.Half.TheVariants.{Low, High}
 use Rattle.nib_mask.specs.declared.masks.Masks.{Masks}
-use Rattle.nib_mask.specs.Candidates.{Covers, filter_number_at, filter_set_at}
+use Rattle.nib_mask.specs.Candidates.{Covers, GivesFilterSets, filter_number_at, filter_set_at}
 use Rattle.nib_mask.specs.FilterSet.{filter_set, is_used, passes, passes_at, shares_half}
 use Rattle.nib_mask.specs.Runs.{bucket_of, runs_mask}
 use Rattle.nib_mask.specs.Tables.{allows, table_value, value_at}
 use Rattle.nib_mask.proofs.Buckets.{runs_mask-and}
 use Rattle.nib_mask.proofs.LawLemmas.{bit_at-occurs}
 
--- a table has, for each value of the half, the number of the runs that it keeps there
-pub record IsTable (l : Literals) (ends : List ℕ) (position : ℕ) (half : Half) (table : List ℕ) : Type 0 where
-  pub entries : (value : ℕ) → value < 16 → get_or table value 0 ≡ runs_mask (allows l.folding position half value) l.texts 0 ends
+-- what holds of the entries of all six tables, by position, half and the half's value
+pub record HaveEntries (P : ℕ → Half → ℕ → ℕ → Type 0) (masks : Masks) : Type 0 where
+  pub low_0 : (value : ℕ) → value < 16 → P 0 Low value (get_or (get_or masks.low 0 []) value 0)
+  pub low_1 : (value : ℕ) → value < 16 → P 1 Low value (get_or (get_or masks.low 1 []) value 0)
+  pub low_2 : (value : ℕ) → value < 16 → P 2 Low value (get_or (get_or masks.low 2 []) value 0)
+  pub high_0 : (value : ℕ) → value < 16 → P 0 High value (get_or (get_or masks.high 0 []) value 0)
+  pub high_1 : (value : ℕ) → value < 16 → P 1 High value (get_or (get_or masks.high 1 []) value 0)
+  pub high_2 : (value : ℕ) → value < 16 → P 2 High value (get_or (get_or masks.high 2 []) value 0)
 
--- so have all six
-pub record HasTables (l : Literals) (ends : List ℕ) (masks : Masks) : Type 0 where
-  pub low_0 : IsTable l ends 0 Low (get_or masks.low 0 [])
-  pub low_1 : IsTable l ends 1 Low (get_or masks.low 1 [])
-  pub low_2 : IsTable l ends 2 Low (get_or masks.low 2 [])
-  pub high_0 : IsTable l ends 0 High (get_or masks.high 0 [])
-  pub high_1 : IsTable l ends 1 High (get_or masks.high 1 [])
-  pub high_2 : IsTable l ends 2 High (get_or masks.high 2 [])
+-- an entry is the number of the runs that a table keeps there
+abbrev pub IsEntryOf : Literals → List ℕ → ℕ → Half → ℕ → ℕ → Type 0
+IsEntryOf l ends position half value entry = entry ≡ runs_mask (allows l.folding position half value) l.texts 0 ends
 
 -- kept by both is kept by a table for both
 distribute : (u x y : Bool) → ((not u || x) && (not u || y)) ≡ (not u || (x && y))
@@ -44,17 +44,18 @@ allows-both fold position byte run =
     distribute (is_used position run) (shares_half fold position Low (byte % 16) run) (shares_half fold position High (byte / 16) run)
 
 -- what a byte has at a position is the number of the runs that pass there
-value_at-is : (l : Literals) (ends : List ℕ) (masks : Masks) (position byte : ℕ) → byte < 256 → IsTable l ends position Low (get_or masks.low position []) → IsTable l ends position High (get_or masks.high position []) → value_at masks position byte ≡ runs_mask (passes_at l.folding position byte) l.texts 0 ends
+value_at-is : (l : Literals) (ends : List ℕ) (masks : Masks) (position byte : ℕ) → byte < 256
+    → ((value : ℕ) → value < 16 → IsEntryOf l ends position Low value (get_or (get_or masks.low position []) value 0))
+    → ((value : ℕ) → value < 16 → IsEntryOf l ends position High value (get_or (get_or masks.high position []) value 0))
+    → value_at masks position byte ≡ runs_mask (passes_at l.folding position byte) l.texts 0 ends
 unfolding value_at
 value_at-is l ends masks position byte small low high =
-    let low_is = low.entries (byte % 16) (omega arith) in
-    let high_is = high.entries (byte / 16) (omega arith) in
-    (λ i. bit_and (low_is i) (high_is i))
+    (λ i. bit_and (low (byte % 16) (omega arith) i) (high (byte / 16) (omega arith) i))
     ∙ runs_mask-and (allows l.folding position Low (byte % 16)) (allows l.folding position High (byte / 16)) l.texts 0 ends
     ∙ (λ i. runs_mask (λ run. allows-both l.folding position byte run i) l.texts 0 ends)
 
 -- the filter number of three bytes is their filter set
-pub table_value-is : (l : Literals) (ends : List ℕ) (masks : Masks) → HasTables l ends masks → (a b c : ℕ) → a < 256 → b < 256 → c < 256 → table_value masks a b c ≡ filter_set l ends a b c
+pub table_value-is : (l : Literals) (ends : List ℕ) (masks : Masks) → HaveEntries (IsEntryOf l ends) masks → GivesFilterSets l ends masks
 unfolding table_value filter_set passes
 table_value-is l ends masks tables a b c small_a small_b small_c =
     let at_0 = value_at-is l ends masks 0 a small_a tables.low_0 tables.high_0 in
@@ -89,7 +90,7 @@ some-occurs l text place end nonempty occurs =
     omega (arith, some, len, begins)
 
 -- no occurrence goes past tables whose filter numbers are the filter sets
-pub covers-from_set : (l : Literals) (ends : List ℕ) (masks : Masks) → IsCut 16 (length l.texts) ends → All (λ len. 1 ≤ len) (lengths l) → ((a b c : ℕ) → a < 256 → b < 256 → c < 256 → table_value masks a b c ≡ filter_set l ends a b c) → Covers l masks
+pub covers-from_set : (l : Literals) (ends : List ℕ) (masks : Masks) → IsCut 16 (length l.texts) ends → All (λ len. 1 ≤ len) (lengths l) → GivesFilterSets l ends masks → Covers l masks
 covers-from_set l ends masks cut nonempty set text place end bytes occurs = record {
   some = some-occurs l text place end nonempty occurs;
   within = occurs.ends;
