@@ -1,4 +1,4 @@
-pub mod EndLemmas
-pub mod HalfLemmas
 pub mod ByteLemmas
+pub mod CoverLemmas
+pub mod EndLemmas
 pub mod Ranks

@@ -48,6 +48,7 @@ impl Prefilter {
         ensures prefilter { IsPrefilterOf list.now ends.now.items result }
         ensures covers { CoversBy list.now (Passes result) }
     {
+        list.normal_law();
         match list.len() {
             1 => match RareByte::only_of(list, 0) {
                 Some(byte) => Prefilter::of_byte(byte),
@@ -61,10 +62,8 @@ impl Prefilter {
 
     /// By the tables of `buckets` buckets.
     fn of_masks(masks: &Masks, buckets: usize) -> Prefilter
-        ensures prefilter { (l : Literals) (ends : List ℕ) → length ends ≡ buckets → GivesFilterSets l ends masks.now
+        ensures { (l : Literals) (ends : List ℕ) → length ends ≡ buckets → GivesFilterSets l ends masks.now
             → IsPrefilterOf l ends result }
-        ensures passes { (l : Literals) (ends : List ℕ) → length ends ≡ buckets → GivesFilterSets l ends masks.now
-            → Covers l masks.now → CoversBy l (Passes result) }
     {
         if buckets <= 8 {
             Prefilter::Nibbles(masks.first_eight())
@@ -75,8 +74,7 @@ impl Prefilter {
 
     /// By the only byte of the only literal.
     fn of_byte(one: RareByte) -> Prefilter
-        ensures prefilter { (l : Literals) (ends : List ℕ) → IsOnlyByte l one → IsPrefilterOf l ends result }
-        ensures passes { (text : List ℕ) (end : ℕ) → IsEndOfByte one text end → Passes result text end }
+        ensures { (l : Literals) (ends : List ℕ) → IsOnlyByte l one → IsPrefilterOf l ends result }
     {
         match Exact::of(one) {
             Some(exact) => Prefilter::OneExactByte(exact),
@@ -86,8 +84,7 @@ impl Prefilter {
 
     /// By three bytes of the only literal.
     fn of_one(triple: ByteTriple) -> Prefilter
-        ensures prefilter { (l : Literals) (ends : List ℕ) → IsOneTriple l triple → IsPrefilterOf l ends result }
-        ensures passes { (text : List ℕ) (end : ℕ) → IsTripleEnd triple text end → Passes result text end }
+        ensures { (l : Literals) (ends : List ℕ) → IsOneTriple l triple → IsPrefilterOf l ends result }
     {
         match Exact::of(triple) {
             Some(exact) => Prefilter::OneExactTriple(exact),
@@ -97,9 +94,7 @@ impl Prefilter {
 
     /// By a pair of each of two literals.
     fn of_two(one: BytePair, two: BytePair) -> Prefilter
-        ensures prefilter { (l : Literals) (ends : List ℕ) → AreTwoPairs l one two → IsPrefilterOf l ends result }
-        ensures passes { (text : List ℕ) (end : ℕ) → IsEndOfTwo one two text end
-            → Passes result text end }
+        ensures { (l : Literals) (ends : List ℕ) → AreTwoPairs l one two → IsPrefilterOf l ends result }
     {
         match (Exact::of(one), Exact::of(two)) {
             (Some(one), Some(two)) => Prefilter::TwoExactPairs(AnyOf::new(one, two)),
@@ -109,10 +104,8 @@ impl Prefilter {
 
     /// By a pair of each of three literals.
     fn of_three(one: BytePair, two: BytePair, three: BytePair) -> Prefilter
-        ensures prefilter { (l : Literals) (ends : List ℕ) → AreThreePairs l one two three
+        ensures { (l : Literals) (ends : List ℕ) → AreThreePairs l one two three
             → IsPrefilterOf l ends result }
-        ensures passes { (text : List ℕ) (end : ℕ) → IsEndOfThree one two three text end
-            → Passes result text end }
     {
         match (Exact::of(one), Exact::of(two), Exact::of(three)) {
             (Some(one), Some(two), Some(three)) => {

@@ -1,13 +1,13 @@
 -- What tables made entry by entry say of three bytes, and that no occurrence goes past them.
 use Rattle.std.proofs.Common.{◌≡◌, ℕ, zero, suc, ◌+◌, ◌-◌, ◌/◌, ◌%◌, ◌<◌, ◌≤◌, ◌&&◌, ◌||◌, not, Bool, true, false, List, [], ◌∷◌, length, get_or, bit_and, All, inl, inr, refl, sym, ap, ◌∙◌, arith}
 use Rattle.std.specs.Int.{bit_at}
-use Rattle.std.proofs.lemmas.List.{get_or-map, length-map, get_or_past}
+use Rattle.std.proofs.lemmas.List.{get_or_past}
 use Rattle.std.proofs.lemmas.Bool.{cases_lt}
 use Rattle.std.proofs.lemmas.Nat.Bits.{bit_at-zero}
 use Rattle.std.proofs.lemmas.Option.{get_or_from_slice_get, slice_get_within}
 use Rattle.lit_base.specs.declared.fold.Fold.{Fold}
 use Rattle.lit_base.specs.Cuts.{IsCut}
-use Rattle.lit_base.specs.Literals.{Literals, lengths}
+use Rattle.lit_base.specs.Literals.{Literals}
 use Rattle.lit_base.specs.Occurrences.{Occurs}
 use Rattle.nib_mask.specs.declared.half.Half.{Half}
 use Rattle.nib_mask.specs.declared.half.Half.TheVariants.{Low, High}
@@ -80,17 +80,15 @@ padded-lt text (suc zero) bytes = omega arith
 padded-lt text (suc (suc i)) bytes = byte-lt text i bytes
 
 -- an occurrence of a literal that is not empty ends past the text's first place
-some-occurs : (l : Literals) (text : List ℕ) (place end : ℕ) → All (λ len. 1 ≤ len) (lengths l) → Occurs l text place end → 1 ≤ end
+pub some-occurs : (l : Literals) (text : List ℕ) (place end : ℕ) → All (λ t. 0 < length t) l.texts → Occurs l text place end → 1 ≤ end
 some-occurs l text place end nonempty occurs =
-    let inside = slice_get_within l.texts place occurs.literal occurs.stands in
     let stands = get_or_from_slice_get l.texts place occurs.literal [] occurs.stands in
-    let len : get_or (lengths l) place 0 ≡ length occurs.literal = get_or-map length l.texts place [] 0 inside ∙ ap length stands in
-    let some = nonempty place 0 (omega (arith, inside, length-map l.texts (length {A = ℕ}))) in
+    let some = nonempty place [] (slice_get_within l.texts place occurs.literal occurs.stands) in
     let begins = occurs.begins in
-    omega (arith, some, len, begins)
+    omega (arith, some, ap (λ (t : List ℕ). length t) stands, begins)
 
 -- no occurrence goes past tables whose filter numbers are the filter sets
-pub covers-from_set : (l : Literals) (ends : List ℕ) (masks : Masks) → IsCut 16 (length l.texts) ends → All (λ len. 1 ≤ len) (lengths l) → GivesFilterSets l ends masks → Covers l masks
+pub covers-from_set : (l : Literals) (ends : List ℕ) (masks : Masks) → IsCut 16 (length l.texts) ends → All (λ t. 0 < length t) l.texts → GivesFilterSets l ends masks → Covers l masks
 covers-from_set l ends masks cut nonempty set text place end bytes occurs = record {
   some = some-occurs l text place end nonempty occurs;
   within = occurs.ends;

@@ -28,7 +28,7 @@ impl Masks {
         ensures set { GivesFilterSets list.now ends.now.items result }
         ensures covers { Covers list.now result }
     {
-        prove!(list.get(0).len() == list.shortest());
+        list.normal_law();
         let ends = ends.as_slice();
         Masks {
             low: [

@@ -1,6 +1,4 @@
 -- The six tables are what they are to be, and so no occurrence goes past them.
-use Rattle.std.proofs.Common.{◌≤◌, All, arith}
-use Rattle.lit_base.specs.Literals.{lengths}
 use Rattle.nib_mask.proofs.TableLemmas.{covers-from_set, table_value-is}
 use Rattle.nib_mask.proofs.masks.Masks.of.Goals as goal
 
@@ -17,8 +15,4 @@ returns-clause-set c =
     }))
 
 pub returns-clause-covers : goal.returns-clause-covers
-returns-clause-covers c =
-    let l = c.args.list.now in
-    let nonempty : All (λ len. 1 ≤ len) (lengths l) =
-    λ k d h. let least = c.shortest.ensures.least k d h in omega (arith, least, c.shortest.ensures.first, c.get.ensures.len, c.get.ensures.nonempty) in
-    covers-from_set l c.args.ends.now.items _ c.requires nonempty (returns-clause-set c)
+returns-clause-covers c = covers-from_set c.args.list.now c.args.ends.now.items _ c.requires c.normal_law.ensures.nonempty (returns-clause-set c)
