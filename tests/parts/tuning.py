@@ -22,7 +22,7 @@ SHAPES = {
         "blocks.rt": {"GROUP", "GROUPS"},
         "confirming.rt": {"CONFIRM_BITS"},
         "entries.rt": {"ALL", "BUCKETS", "ENTRIES", "PLACES"},
-        "runs.rt": {"BUCKETS", "WEIGHTS"},
+        "runs.rt": {"WEIGHTS"},
         "shift_or.rt": {"FRONT"},
     },
     "prefilter_search": {},

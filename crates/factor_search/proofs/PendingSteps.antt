@@ -13,7 +13,7 @@ use Rattle.nib_mask.specs.declared.masks.Masks.{Masks}
 use Rattle.lane_filter.specs.Bits.{SplitsLowest}
 use Rattle.lane_filter.specs.Lanes.{IsMaskOf}
 use Rattle.factor_search.specs.Factors.{AreHashBits, AreWithin, Factored, offset_at}
-use Rattle.factor_search.proofs.FactorLemmas.{literal_is}
+use Rattle.list_index.proofs.SuffixLemmas.{literal_is}
 use Rattle.lit_base.specs.NextEnds.{IsNextEnd, NoEndUpTo}
 use Rattle.factor_search.specs.PendingEnds.{ArePending, ArePendingEnds}
 use Rattle.factor_search.specs.declared.factor_ends.Pending.{Pending}

@@ -1,8 +1,9 @@
 -- Factors of literals, which have hash bits.
-use Rattle.std.specs.Prelude.{◌≡◌, ℕ, ◌+◌, ◌^◌, ◌<◌, ◌≤◌, List, length, slice_index}
+use Rattle.std.specs.Prelude.{◌≡◌, ℕ, ◌+◌, ◌-◌, ◌<◌, ◌≤◌, List, length, slice_index}
 use Rattle.std.specs.Int.{bit_at}
 use Rattle.lit_base.specs.Literals.{Literals, literal_at}
-use Rattle.list_index.specs.HashBits.{IsHashBitOf, IsMarked, IsMarkedFor}
+use Rattle.list_index.specs.HashBits.{AreKeyBits}
+use Rattle.list_index.specs.Suffixes.{suffix_key}
 use Rattle.lit_base.specs.Occurrences.{Occurs}
 use Rattle.list_index.specs.declared.suffixes.hash_bits.TheConstants.{HASH_BITS}
 use Rattle.factor_search.specs.Widths.{width_at}
@@ -29,21 +30,17 @@ AreWithin w = (place : ℕ) → place < length w.literals.texts → IsWithin w p
 abbrev pub AreHashBits : Factored → List ℕ → ℕ → ℕ → Type 0
 AreHashBits w text at hash_bits = (place : ℕ) → Occurs w.literals text place (at + offset_at w place) → bit_at hash_bits (offset_at w place) ≡ 1
 
--- a literal has the hash bit of its factor of `width` bytes at an offset
-pub record IsMarkedByFactor (l : Literals) (hash_bits : List ℕ) (place width offset : ℕ) : Type 0 where
+-- the factor of the literal at a place, by its offset, lies within the literal, and within the reach of a byte of hash bits
+pub record IsFactor (l : Literals) (place offset : ℕ) : Type 0 where
   pub near : offset < 8
-  pub wide : width + offset ≤ length (literal_at l place)
-  pub marked : IsMarkedFor hash_bits l.folding (literal_at l place) width offset
+  pub wide : width_at l place + offset ≤ length (literal_at l place)
 
--- the hash bit is that of the factor of one of the first literals of a list
-pub record IsFactorHashBit (l : Literals) (offsets : List ℕ) (count number back : ℕ) : Type 0 where
-  pub place : ℕ
-  pub within : place < count
-  pub is : IsHashBitOf l.folding (literal_at l place) (width_at l place) (slice_index offsets place) number back
+-- the key of this factor
+abbrev pub factor_key : Literals → ℕ → ℕ → ℕ
+factor_key l place offset = suffix_key l.folding (literal_at l place) (length (literal_at l place) - offset) (width_at l place)
 
--- each literal before a place has its hash bit, and no other bit is set
+-- each literal before a place has the hash bit of its factor, and no other bit is set
 pub record AreMarkedByFactors (l : Literals) (offsets hash_bits : List ℕ) (count : ℕ) : Type 0 where
   pub offsets_len : length offsets ≡ length l.texts
-  pub hash_bits_len : length hash_bits ≡ 2 ^ HASH_BITS
-  pub marked : (place : ℕ) → place < count → IsMarkedByFactor l hash_bits place (width_at l place) (slice_index offsets place)
-  pub only : (number back : ℕ) → IsMarked hash_bits number back → IsFactorHashBit l offsets count number back
+  pub factors : (place : ℕ) → place < count → IsFactor l place (slice_index offsets place)
+  pub bits : AreKeyBits HASH_BITS (λ place. factor_key l place (slice_index offsets place)) (slice_index offsets) count hash_bits

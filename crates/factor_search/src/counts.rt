@@ -3,7 +3,7 @@ ghost use Rattle.std.specs.Prelude.{◌≡◌, ◌^◌, ◌<◌, ◌≤◌, IfOk
 ghost use Rattle.list_index.specs.declared.suffixes.hash_bits.TheConstants.{HASH_BITS};
 
 use crate::widths::WIDTH;
-use list_index::{HASH_BITS, case_bits, hash_of, last_bits, last_word, suffix_key};
+use list_index::{HASH_BITS, case_bits, hash_of, last_word, masked_key, suffix_key};
 use lit_base::LitList;
 use std::alloc::{AllocError, Global};
 
@@ -78,7 +78,7 @@ fn count_sample(counts: &mut Vec<u16>, case_bits: u64, sample: &[u8])
     ensures { vec_len counts.new ≡ vec_len counts.old }
 {
     for end in 8..sample.len() {
-        let key = (last_word(sample, end) & last_bits(MASKED)) | case_bits;
+        let key = masked_key(last_word(sample, end), MASKED, case_bits);
         let number = hash_of(HASH_BITS, key);
         counts[number] = counts[number].saturating_add(1);
     }

@@ -1,9 +1,8 @@
 //! The factors by which literals are searched for.
 ghost use Rattle.std.specs.Prelude.{◌≡◌, ℕ, ◌+◌, ◌^◌, ◌<◌, ◌≤◌, ◌++◌, ◌-◌, IfOk, length, replicate, slice_index, slice_range, vec_len};
 ghost use Rattle.std.specs.Int.{bit_at};
-ghost use Rattle.std.specs.Int.RustNames.{bit_and, bit_or};
-ghost use Rattle.list_index.specs.HashBits.{IsMarked};
-ghost use Rattle.list_index.specs.Suffixes.{hash_of, last_bits, spelled, suffix_key};
+ghost use Rattle.list_index.specs.HashBits.{HasBit};
+ghost use Rattle.list_index.specs.Suffixes.{hash_of, masked_key, spelled, suffix_key};
 ghost use Rattle.list_index.specs.declared.suffixes.hash_bits.TheConstants.{HASH_BITS};
 ghost use Rattle.nib_mask.specs.Prefixes.{CoversPrefixes};
 ghost use Rattle.nib_mask.specs.Halves.{widened};
@@ -17,7 +16,7 @@ use crate::marking::mark_all;
 use crate::prices::cost_of_masks;
 use crate::tuning::{MARK_COST, START_COST};
 use crate::widths::{WIDTH, least_width, widths_from};
-use list_index::{HASH_BITS, ListIndex, case_bits, hash_of, last_bits, suffix_key};
+use list_index::{HASH_BITS, ListIndex, case_bits, hash_of, masked_key, suffix_key};
 use lit_base::{Fold, LitList};
 use nib_mask::ByteMasks;
 use std::alloc::{AllocError, Global};
@@ -177,7 +176,7 @@ fn hash_bits_of_widths(hash_bits: &Vec<u8>, fold: Fold, least: usize, text: &[u8
     requires four { 4 ≤ at }
     requires inside { at ≤ length text.now }
     ensures { (width back : ℕ) → least ≤ width → width ≤ WIDTH
-        → IsMarked hash_bits.now.items (hash_of HASH_BITS (suffix_key fold text.now at width)) back → bit_at result back ≡ 1 }
+        → HasBit hash_bits.now.items (hash_of HASH_BITS (suffix_key fold text.now at width)) back → bit_at result back ≡ 1 }
 {
     let word = last_four(text, at);
     let case_bits = case_bits(fold);
@@ -206,18 +205,9 @@ fn hash_bits_of(hash_bits: &Vec<u8>, word: u64, width: usize, case_bits: u64) ->
     requires room { vec_len hash_bits.now ≡ 2 ^ HASH_BITS }
     requires some { 0 < width }
     requires narrow { width ≤ 8 }
-    ensures { result ≡ slice_index hash_bits.now.items (hash_of HASH_BITS (bit_or (bit_and word (last_bits width)) case_bits)) }
+    ensures { result ≡ slice_index hash_bits.now.items (hash_of HASH_BITS (masked_key word width case_bits)) }
 {
-    hash_bits[hash_of(HASH_BITS, (word & last_bits(width)) | case_bits)]
-}
-
-/// The hash bits of the last of eight bytes. Few lists need it.
-#[inline(never)]
-fn hash_bits_of_one(hash_bits: &Vec<u8>, word: u64, case_bits: u64) -> u8
-    requires { vec_len hash_bits.now ≡ 2 ^ HASH_BITS }
-    ensures { result ≡ slice_index hash_bits.now.items (hash_of HASH_BITS (bit_or (bit_and word (last_bits 1)) case_bits)) }
-{
-    hash_bits_of(hash_bits, word, 1, case_bits)
+    hash_bits[hash_of(HASH_BITS, masked_key(word, width, case_bits))]
 }
 
 /// The hash bits of the last bytes of a word, by all widths from the least to three.
@@ -226,7 +216,7 @@ fn short_hash_bits(hash_bits: &Vec<u8>, word: u64, least: usize, case_bits: u64)
     requires room { vec_len hash_bits.now ≡ 2 ^ HASH_BITS }
     requires some { 0 < least }
     ensures { (width back : ℕ) → least ≤ width → width < WIDTH
-        → IsMarked hash_bits.now.items (hash_of HASH_BITS (bit_or (bit_and word (last_bits width)) case_bits)) back → bit_at result back ≡ 1 }
+        → HasBit hash_bits.now.items (hash_of HASH_BITS (masked_key word width case_bits)) back → bit_at result back ≡ 1 }
 {
     let three = hash_bits_of(hash_bits, word, 3, case_bits);
     if least > 2 {
@@ -236,7 +226,7 @@ fn short_hash_bits(hash_bits: &Vec<u8>, word: u64, least: usize, case_bits: u64)
     if least > 1 {
         return two | three;
     }
-    let one = hash_bits_of_one(hash_bits, word, case_bits);
+    let one = hash_bits_of(hash_bits, word, 1, case_bits);
     one | (two | three)
 }
 
@@ -254,23 +244,11 @@ fn hash_bits_near_prefix(
     requires inside { at ≤ length text.now }
     requires near { at < WIDTH }
     ensures { (width back : ℕ) → least ≤ width → width ≤ at
-        → IsMarked hash_bits.now.items (hash_of HASH_BITS (suffix_key fold text.now at width)) back → bit_at result back ≡ 1 }
+        → HasBit hash_bits.now.items (hash_of HASH_BITS (suffix_key fold text.now at width)) back → bit_at result back ≡ 1 }
 {
     let mut found = 0;
     for width in least..at + 1 {
-        found |= hash_bits_before(hash_bits, fold, text, at, width);
+        found |= hash_bits[hash_of(HASH_BITS, suffix_key(fold, text, at, width))];
     }
     found
-}
-
-/// The hash bits of the `width` bytes before a position.
-fn hash_bits_before(hash_bits: &Vec<u8>, fold: Fold, text: &[u8], at: usize, width: usize) -> u8
-    requires room { vec_len hash_bits.now ≡ 2 ^ HASH_BITS }
-    requires some { 0 < width }
-    requires narrow { width ≤ 8 }
-    requires begins { width ≤ at }
-    requires inside { at ≤ length text.now }
-    ensures { result ≡ slice_index hash_bits.now.items (hash_of HASH_BITS (suffix_key fold text.now at width)) }
-{
-    hash_bits[hash_of(HASH_BITS, suffix_key(fold, text, at, width))]
 }

@@ -6,7 +6,7 @@ use lit_base::{Fold, LitList, RawList};
 use shift_search::{ShiftOr, cut_runs};
 use std::alloc::Global;
 use std::sync::Arc;
-use text_ends::EndRate;
+use text_ends::{EndRate, Tally};
 
 /// Literals of each length that is marked in its own way.
 const WORDS: [&[u8]; 5] = [b"q", b"xy", b"fox", b"over", b"lazy dogs"];
@@ -198,10 +198,11 @@ fn found_by(
     let mut shift_or = ShiftOr::new(alloc, index).ok()?;
     shift_or.learn(&sample_of(alloc, bytes)?, EndRate::nothing());
     let mut probes = shift_or.probes_after(text, 0);
-    let (mut found, mut met, mut seen, mut left) = (0usize, 0usize, 0, 0);
+    let (mut found, mut met, mut seen) = (0usize, 0usize, 0);
+    let mut tally = Tally::nothing();
     for _ in 0..text.len() {
-        let Some((end, _)) = shift_or.next_by(text, seen, &mut probes, &mut left) else {
-            return Some((found, met, left));
+        let Some((end, _)) = shift_or.next_by(text, seen, &mut probes, &mut tally) else {
+            return Some((found, met, tally.marked));
         };
         seen = end;
         found = found.saturating_add(1);
@@ -209,7 +210,7 @@ fn found_by(
             met = met.saturating_add(1);
         }
     }
-    Some((found, met, left))
+    Some((found, met, tally.marked))
 }
 
 /// The same for literals of four bytes.
@@ -285,13 +286,13 @@ fn finds_short_literals_in_any_case(rt: HostRuntime) {
 /// Whether a search by shift-or finds one end in a text, which is this.
 fn finds_only(shift_or: &ShiftOr, text: &[u8], end: usize) -> bool {
     let mut probes = shift_or.probes_after(text, 0);
-    let mut left = 0;
-    let Some((found, _)) = shift_or.next_by(text, 0, &mut probes, &mut left) else {
+    let mut tally = Tally::nothing();
+    let Some((found, _)) = shift_or.next_by(text, 0, &mut probes, &mut tally) else {
         return false;
     };
     found == end
         && shift_or
-            .next_by(text, found, &mut probes, &mut left)
+            .next_by(text, found, &mut probes, &mut tally)
             .is_none()
 }
 
@@ -396,8 +397,8 @@ fn second_unlearned(alloc: Global) -> Option<usize> {
     let index = index_of(alloc, Fold::No, &FOURS)?;
     let shift_or = ShiftOr::new(alloc, index).ok()?;
     let mut probes = shift_or.probes_after(WITH_FOURS, FOUR_ENDS[0]);
-    let mut left = 0;
-    match shift_or.next_by(WITH_FOURS, FOUR_ENDS[0], &mut probes, &mut left) {
+    let mut tally = Tally::nothing();
+    match shift_or.next_by(WITH_FOURS, FOUR_ENDS[0], &mut probes, &mut tally) {
         Some((end, _)) => Some(end),
         None => None,
     }

@@ -1,50 +1,32 @@
 -- Checks: a text has the bit of each literal that ends in it.
-use Rattle.std.proofs.Common.{◌≡◌, ◌≢◌, ℕ, ◌+◌, ◌-◌, ◌*◌, ◌%◌, ◌^◌, ◌++◌, replicate, ◌<◌, ◌≤◌, List, [], length, min, inl, inr, refl, sym, ap, ◌∙◌, subst, arith}
+use Rattle.std.proofs.Common.{◌≡◌, ◌≢◌, ℕ, ◌+◌, ◌-◌, ◌*◌, ◌%◌, ◌^◌, ◌<◌, ◌≤◌, List, [], length, min, inl, inr, refl, sym, ap, ◌∙◌, arith}
 use Rattle.std.specs.Int.{bit_at, bit_not, w8}
 use Rattle.std.specs.Int.RustNames.{bit_and, bit_or}
 use Rattle.std.specs.List.{slice_range}
 use Rattle.std.proofs.lemmas.Bool.{cases_eq, cases_lt}
+use Rattle.std.proofs.lemmas.Bool.Decides.{nat_tests}
 use Rattle.std.proofs.lemmas.Nat.{and_le_l}
 use Rattle.std.proofs.lemmas.Nat.Bits.{bit_at-lt, bit_at-zero, bit_at_and, bit_at_clear_other, bit_at_clear_same, bit_at_ones, bit_at_or, bit_at_set_same}
 use Rattle.std.proofs.lemmas.Map.Keys.{Less-from_sorted}
 use Rattle.std.proofs.lemmas.Option.{get_or_from_slice_get, slice_get_within}
 use Rattle.list_index.specs.declared.suffixes.checks.SuffixChecks.{SuffixChecks}
 use Rattle.list_index.specs.Chains.{HaveWidths, NoneKeyedEnds, key_width_at}
-use Rattle.list_index.specs.Checks.{AreChecksOf, IsChecked, last_key}
+use Rattle.list_index.specs.Checks.{AreChecksOf, checked_width}
 use Rattle.lit_base.specs.Literals.{IsNormal, Literals, literal_cmp, literal_at}
 use Rattle.lit_base.specs.Occurrences.{Occurs}
 use Rattle.lit_base.specs.Folding.{folded_text}
-use Rattle.list_index.specs.Suffixes.{last_bits, spelled, suffix_key, key_width}
+use Rattle.list_index.specs.Suffixes.{key_width}
 use Rattle.lit_base.proofs.InsertLemmas.{literal_total}
 use Rattle.lit_base.proofs.SortedLists.{not_below}
-use Rattle.list_index.proofs.SuffixLemmas.{AreBytes, key-occurs, masked, spelled_fits}
 
--- where a literal ends, the hash of the bytes before has the bit of its key width, if the hash of its own checked bytes
--- has it
-pub checked-occurs : (l : Literals) (checks : SuffixChecks) (text : List ℕ) (place end most : ℕ) → AreChecksOf l checks → AreBytes text → 8 ≤ end → Occurs l text place end
-    → IsChecked checks.widths.items (key_width_at l place) (last_key l most place)
-    → IsChecked checks.widths.items (key_width_at l place) (bit_or (bit_and (spelled (slice_range text (end - 8) end)) (last_bits (min (key_width_at l place) most))) checks.case_bits)
-unfolding suffix_key
-checked-occurs l checks text place end most is bytes room occurs checked =
-    let inside : end ≤ length text = occurs.ends in
-    let width : ℕ = min (key_width_at l place) most in
-    let narrow : width ≤ 8 = omega arith in
-    let word : ℕ = spelled (slice_range text (end - 8) end) in
-    let masks : bit_and word (last_bits width) ≡ spelled (replicate (8 - width) 0 ++ slice_range text (end - width) end) =
-    masked text end width word bytes narrow room inside (spelled_fits text end bytes room inside) refl in
-    let key : bit_or (bit_and word (last_bits width)) checks.case_bits ≡ suffix_key l.folding text end width = λ i. bit_or (masks i) (is.case i) in
-    let literal = key-occurs l text place end width bytes narrow (omega arith) occurs in
-    subst (IsChecked checks.widths.items (key_width_at l place)) (sym (key ∙ literal)) checked
+-- as many bytes are checked: all of a short key or the most, and of a key of eight bytes all
+pub checked_short : (most width : ℕ) → width < 8 → checked_width most width ≡ min width most
+checked_short most width short = grind (arith, nat_tests)
 
--- a bit that some widths have stays, whatever is added
-pub width_stays : (widths more place : ℕ) → bit_at widths place ≡ 1 → bit_at (bit_or widths more) place ≡ 1
-width_stays widths more place has = omega (arith, has, bit_at_or widths more place, bit_at-lt (bit_or widths more) place)
+pub checked_within : (most width : ℕ) → checked_width most width ≤ width
+checked_within most width = grind (arith, nat_tests)
 
--- and so does a bit of the widths added
-pub more_stays : (widths more place : ℕ) → bit_at more place ≡ 1 → bit_at (bit_or widths more) place ≡ 1
-more_stays widths more place has = omega (arith, has, bit_at_or widths more place, bit_at-lt (bit_or widths more) place)
-
--- the bit of a byte is added to them
+-- the bit of a byte is added to widths
 pub width_added : (widths byte back : ℕ) → back < 8 → bit_at byte back ≡ 1 → bit_at (bit_or widths (bit_and byte (1 * 2 ^ back % 256))) back ≡ 1
 width_added widths byte back bit has =
     let one = bit_at_set_same w8 0 back bit in

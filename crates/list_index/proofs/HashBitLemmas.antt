@@ -1,76 +1,98 @@
--- Marks: one more, and that a text has the mark of each literal that ends in it.
-use Rattle.std.proofs.Common.{◌≡◌, ℕ, ◌+◌, ◌-◌, ◌++◌, replicate, refl, ◌*◌, ◌%◌, ◌^◌, ◌<◌, ◌≤◌, List, length, get_or, set, ◌⊎◌, inl, inr, sym, ap, ◌∙◌, subst, arith, get_or-set_same, get_or-set_other}
+-- Tables of bits by the hashes of keys: one more bit, and that a table has the bit of each literal that ends in a text.
+use Rattle.std.proofs.Common.{◌≡◌, ℕ, ◌+◌, ◌-◌, refl, ◌*◌, ◌%◌, ◌^◌, ◌<◌, ◌≤◌, List, length, get_or, replicate, set, ◌⊎◌, inl, inr, sym, ap, ◌∙◌, subst, arith, below_more, get_or-set_same, get_or-set_other}
 use Rattle.std.specs.Int.{bit_at, w8}
 use Rattle.std.specs.Int.RustNames.{bit_and, bit_or}
 use Rattle.std.specs.List.{slice_range}
 use Rattle.std.proofs.lemmas.Bool.{cases_eq, cases_lt}
 use Rattle.std.proofs.lemmas.List.{get_or-replicate, get_or_past, length-replicate}
-use Rattle.std.proofs.lemmas.Nat.Bits.{bit_at-zero, bit_at_set_same, bit_at_set_other}
+use Rattle.std.proofs.lemmas.Nat.Bits.{bit_at-lt, bit_at-zero, bit_at_or, bit_at_set_same, bit_at_set_other}
 use Rattle.std.proofs.lemmas.Option.{slice_get_within}
 use Rattle.list_index.specs.declared.suffixes.hash_bits.HashBits.{HashBits}
 use Rattle.list_index.specs.declared.suffixes.hash_bits.TheConstants.{HASH_BITS}
 use Rattle.lit_base.specs.Literals.{Literals}
-use Rattle.list_index.specs.HashBits.{IsMarked, AreHashBitsOf}
+use Rattle.list_index.specs.HashBits.{AreHashBitsOf, AreKeyBits, HasBit}
 use Rattle.lit_base.specs.Occurrences.{Occurs}
-use Rattle.list_index.specs.Suffixes.{hash_of, spelled, suffix_key}
-use Rattle.list_index.proofs.SuffixLemmas.{AreBytes, key-occurs_inside, masked, spelled_fits}
+use Rattle.list_index.specs.Suffixes.{hash_of, spelled}
+use Rattle.list_index.proofs.SuffixLemmas.{AreBytes, word-occurs}
 
-module _ (hash_bits : List ℕ) (number byte back : ℕ) (room : number < length hash_bits) (read : byte ≡ get_or hash_bits number 0) (bit : back < 8) where
-  abbrev marked_byte : ℕ
-  marked_byte = bit_or byte (1 * 2 ^ back % 256)
+module _ (table : List ℕ) (number byte bit : ℕ) (room : number < length table) (read : byte ≡ get_or table number 0) (small : bit < 8) where
+  abbrev with_bit : ℕ
+  with_bit = bit_or byte (1 * 2 ^ bit % 256)
 
-  -- the number is marked
-  pub marked_now : IsMarked (set hash_bits number marked_byte) number back
-  marked_now = ap (λ w. bit_at w back) (get_or-set_same hash_bits number marked_byte 0 room) ∙ bit_at_set_same w8 byte back bit
+  -- the number has the bit
+  pub bit_now : HasBit (set table number with_bit) number bit
+  bit_now = ap (λ w. bit_at w bit) (get_or-set_same table number with_bit 0 room) ∙ bit_at_set_same w8 byte bit small
 
-  -- and earlier marks stay
-  pub marked_still : (other place : ℕ) → IsMarked hash_bits other place → IsMarked (set hash_bits number marked_byte) other place
-  marked_still other place old = elim (cases_eq other number) [
+  -- and earlier bits stay
+  pub bit_still : (other place : ℕ) → HasBit table other place → HasBit (set table number with_bit) other place
+  bit_still other place old = elim (cases_eq other number) [
     | inl here ↦
-        let same : bit_at byte place ≡ 1 = ap (λ w. bit_at w place) (read ∙ ap (λ k. get_or hash_bits k 0) (sym here)) ∙ old in
-        ap (λ k. bit_at (get_or (set hash_bits number marked_byte) k 0) place) here
-        ∙ ap (λ w. bit_at w place) (get_or-set_same hash_bits number marked_byte 0 room)
-        ∙ elim (cases_eq place back) [
-          | inl there ↦ ap (λ k. bit_at marked_byte k) there ∙ bit_at_set_same w8 byte back bit
-          | inr apart ↦ bit_at_set_other w8 byte back bit place apart ∙ same
+        let same : bit_at byte place ≡ 1 = ap (λ w. bit_at w place) (read ∙ ap (λ k. get_or table k 0) (sym here)) ∙ old in
+        ap (λ k. bit_at (get_or (set table number with_bit) k 0) place) here
+        ∙ ap (λ w. bit_at w place) (get_or-set_same table number with_bit 0 room)
+        ∙ elim (cases_eq place bit) [
+          | inl there ↦ ap (λ k. bit_at with_bit k) there ∙ bit_at_set_same w8 byte bit small
+          | inr apart ↦ bit_at_set_other w8 byte bit small place apart ∙ same
         ]
-    | inr apart ↦ ap (λ w. bit_at w place) (get_or-set_other hash_bits number other marked_byte 0 apart) ∙ old
+    | inr apart ↦ ap (λ w. bit_at w place) (get_or-set_other table number other with_bit 0 apart) ∙ old
   ]
 
-  -- and nothing else is marked
-  pub marked_before : (other place : ℕ) → IsMarked (set hash_bits number marked_byte) other place → (IsMarked hash_bits other place) ⊎ ((other ≡ number) × (place ≡ back))
-  marked_before other place now = elim (cases_eq other number) [
-    | inr apart ↦ inl (ap (λ w. bit_at w place) (sym (get_or-set_other hash_bits number other marked_byte 0 apart)) ∙ now)
-    | inl here ↦ elim (cases_eq place back) [
+  -- and no other bit is set
+  pub bit_before : (other place : ℕ) → HasBit (set table number with_bit) other place → (HasBit table other place) ⊎ ((other ≡ number) × (place ≡ bit))
+  bit_before other place now = elim (cases_eq other number) [
+    | inr apart ↦ inl (ap (λ w. bit_at w place) (sym (get_or-set_other table number other with_bit 0 apart)) ∙ now)
+    | inl here ↦ elim (cases_eq place bit) [
       | inl there ↦ inr (here, there)
       | inr apart ↦ inl (
-          ap (λ w. bit_at w place) (ap (λ k. get_or hash_bits k 0) here ∙ sym read)
-          ∙ sym (bit_at_set_other w8 byte back bit place apart)
-          ∙ ap (λ w. bit_at w place) (sym (get_or-set_same hash_bits number marked_byte 0 room))
-          ∙ ap (λ k. bit_at (get_or (set hash_bits number marked_byte) k 0) place) (sym here)
+          ap (λ w. bit_at w place) (ap (λ k. get_or table k 0) here ∙ sym read)
+          ∙ sym (bit_at_set_other w8 byte bit small place apart)
+          ∙ ap (λ w. bit_at w place) (sym (get_or-set_same table number with_bit 0 room))
+          ∙ ap (λ k. bit_at (get_or (set table number with_bit) k 0) place) (sym here)
           ∙ now)
     ]
   ]
 
--- where all bytes are 0, nothing is marked
-pub none_marked : (hash_bits : List ℕ) (count number back : ℕ) → hash_bits ≡ replicate count 0 → ¬ IsMarked hash_bits number back
-none_marked hash_bits count number back zeros marked =
-    let byte : get_or hash_bits number 0 ≡ 0 = ap (λ m. get_or m number 0) zeros ∙ elim (cases_lt number count) [
-      | inl inside ↦ get_or-replicate count number 0 0 inside
-      | inr past ↦ get_or_past (replicate count 0) number 0 (omega (arith, length-replicate {A = ℕ} count 0, past))
-    ] in
-    omega (arith, ap (λ b. bit_at b back) byte, bit_at-zero back, marked)
+-- a bit of either of two numbers is one of both together
+pub bit_of_left : (a b i : ℕ) → bit_at a i ≡ 1 → bit_at (bit_or a b) i ≡ 1
+bit_of_left a b i set = omega (arith, bit_at_or a b i, set, bit_at-lt (bit_or a b) i)
 
--- where a literal ends, the text's hash before it is marked
+pub bit_of_right : (a b i : ℕ) → bit_at b i ≡ 1 → bit_at (bit_or a b) i ≡ 1
+bit_of_right a b i set = omega (arith, bit_at_or a b i, set, bit_at-lt (bit_or a b) i)
+
+-- a table of zeros has the bits of no place
+pub no_key_bits : (bits : ℕ) (key_of bit_of : ℕ → ℕ) (table : List ℕ) → table ≡ replicate (2 ^ bits) 0 → AreKeyBits bits key_of bit_of 0 table
+no_key_bits bits key_of bit_of table zeros = record {
+  room = ap (λ (t : List ℕ). length t) zeros ∙ length-replicate {A = ℕ} (2 ^ bits) 0;
+  has = λ place low. absurd (omega (arith, low));
+  only = λ number bit now.
+      let byte : get_or table number 0 ≡ 0 = ap (λ t. get_or t number 0) zeros ∙ elim (cases_lt number (2 ^ bits)) [
+        | inl inside ↦ get_or-replicate (2 ^ bits) number 0 0 inside
+        | inr past ↦ get_or_past (replicate (2 ^ bits) 0) number 0 (omega (arith, length-replicate {A = ℕ} (2 ^ bits) 0, past))
+      ] in
+      absurd (omega (arith, ap (λ b. bit_at b bit) byte, bit_at-zero bit, now));
+}
+
+-- with the bit of the next place, and no other new bit, it has those of one place more
+pub more_key_bits : (bits : ℕ) (key_of bit_of : ℕ → ℕ) (count key bit : ℕ) (old new : List ℕ) → AreKeyBits bits key_of bit_of count old → key ≡ key_of count → bit ≡ bit_of count → length new ≡ length old → HasBit new (hash_of bits key) bit
+    → ((number other : ℕ) → HasBit old number other → HasBit new number other)
+    → ((number other : ℕ) → HasBit new number other → (HasBit old number other) ⊎ ((number ≡ hash_of bits key) × (other ≡ bit)))
+    → AreKeyBits bits key_of bit_of (count + 1) new
+more_key_bits bits key_of bit_of count key bit old new are key_is bit_is len set kept only = record {
+  room = len ∙ are.room;
+  has = below_more _ _
+      (λ place low. kept _ _ (are.has place low))
+      (subst (λ k. HasBit new (hash_of bits k) (bit_of count)) key_is (subst (HasBit new (hash_of bits key)) bit_is set));
+  only = λ number other now. elim (only number other now) [
+    | inl before ↦ let is = are.only number other before in record { place = is.place; within = omega (arith, is.within); hash = is.hash; is = is.is }
+    | inr next ↦ record { place = count; within = omega arith; hash = next.0 ∙ ap (hash_of bits) key_is; is = next.1 ∙ bit_is }
+  ];
+}
+
+-- where a literal ends, the text's hash before it has the bit
 pub marked-occurs : (l : Literals) (hash_bits : HashBits) (text : List ℕ) (place end : ℕ) → AreHashBitsOf l hash_bits → AreBytes text → 8 ≤ end → Occurs l text place end
-    → IsMarked hash_bits.bytes.items (hash_of HASH_BITS (bit_or (bit_and (spelled (slice_range text (end - 8) end)) hash_bits.mask) hash_bits.case_bits)) 0
-unfolding suffix_key
+    → HasBit hash_bits.bytes.items (hash_of HASH_BITS (bit_or (bit_and (spelled (slice_range text (end - 8) end)) hash_bits.mask) hash_bits.case_bits)) 0
 marked-occurs l hash_bits text place end is bytes room occurs =
     let there = slice_get_within l.texts place occurs.literal occurs.stands in
     let word : ℕ = spelled (slice_range text (end - 8) end) in
-    let masks : bit_and word hash_bits.mask ≡ spelled (replicate (8 - hash_bits.width) 0 ++ slice_range text (end - hash_bits.width) end) =
-    ap (bit_and word) is.mask ∙ masked text end hash_bits.width word bytes is.narrow room occurs.ends (spelled_fits text end bytes room occurs.ends) refl in
-    let key : bit_or (bit_and word hash_bits.mask) hash_bits.case_bits ≡ suffix_key l.folding text end hash_bits.width = λ i. bit_or (masks i) (is.case i) in
-    let whole : end ≡ end - 0 = omega arith in
-    let literal = ap (λ n. suffix_key l.folding text n hash_bits.width) whole ∙ key-occurs_inside l text place end hash_bits.width 0 bytes is.narrow (omega (arith, is.wide place there)) occurs in
-    subst (λ k. IsMarked hash_bits.bytes.items (hash_of HASH_BITS k) 0) (sym (key ∙ literal)) (is.marked place there)
+    let key = ap (λ m. bit_or (bit_and word m) hash_bits.case_bits) is.mask ∙ word-occurs l text place end hash_bits.width word hash_bits.case_bits bytes is.narrow room (is.wide place there) refl is.case occurs in
+    subst (λ k. HasBit hash_bits.bytes.items (hash_of HASH_BITS k) 0) (sym key) (is.bits.has place there)

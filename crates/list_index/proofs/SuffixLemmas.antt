@@ -7,7 +7,6 @@ use Rattle.std.specs.Int.{w64, from_le_bytes}
 use Rattle.std.specs.Int.RustNames.{bit_and, bit_or}
 use Rattle.std.specs.Int.Bits.{or_zero_r}
 use Rattle.std.specs.List.{slice_range}
-use Rattle.std.specs.Option.{unwrap_or}
 use Rattle.std.proofs.lemmas.Bool.{agree_below_at, cases_lt}
 use Rattle.std.proofs.lemmas.Bool.Decides.{nat_tests, Decides-eqb}
 use Rattle.std.proofs.lemmas.List.{append-nil, append_cancel_left, drop-drop, drop-map, drop_all, take-replicate, take-take, get_or_past, length-append, length-replicate, length-take}
@@ -15,7 +14,8 @@ use Rattle.std.proofs.lemmas.List.Edits.{length-between, get_or-between}
 use Rattle.std.proofs.lemmas.Nat.{pow-add, shr-shr, shr_high, or_block}
 use Rattle.std.proofs.lemmas.Nat.Bits.{and_high_mask}
 use Rattle.std.proofs.Math.Nat.{mul_assoc}
-use Rattle.std.proofs.lemmas.Option.{slice_get-get_or, unwrap_or-slice_get}
+use Rattle.std.proofs.Math.Seq.{drop-append-add}
+use Rattle.std.proofs.lemmas.Option.{get_or_from_slice_get, slice_get-get_or}
 use Rattle.std.proofs.lemmas.Slice.{between_is, between_to_end}
 use Rattle.lit_base.specs.declared.fold.Fold.{Fold}
 use Rattle.lit_base.specs.declared.fold.Fold.TheVariants.{No, Ascii}
@@ -23,7 +23,7 @@ use Rattle.lit_base.specs.Folding.{folded, folded_text}
 use Rattle.lit_base.specs.Literals.{Literals, literal_at}
 use Rattle.lit_base.specs.Occurrences.{Occurs}
 use Rattle.lit_base.proofs.FoldLemmas.{prefix_folds, unfolded}
-use Rattle.list_index.specs.Suffixes.{spelled, case_bits, last_bits, suffix_key}
+use Rattle.list_index.specs.Suffixes.{spelled, case_bits, last_key, masked_key, suffix_key, suffix_mask}
 
 -- the elements are bytes
 pub record AreBytes (bs : List ℕ) : Type 0 where
@@ -145,16 +145,6 @@ range_bytes text from end inside bytes = record {
   ];
 }
 
--- of the number that eight bytes spell, the last bits are what the last of them spell after zeros
-pub masked : (text : List ℕ) (end width word : ℕ) → AreBytes text → width ≤ 8 → 8 ≤ end → end ≤ length text → word < 2 ^ 64 → word ≡ spelled (slice_range text (end - 8) end)
-    → bit_and word (last_bits width) ≡ spelled (replicate (8 - width) 0 ++ slice_range text (end - width) end)
-masked text end width word bytes narrow room inside fits is =
-    and_high_mask 64 (8 * (8 - width)) (omega arith) word fits
-    ∙ ap (λ n. n / 2 ^ (8 * (8 - width)) * 2 ^ (8 * (8 - width))) is
-    ∙ ap (λ n. n * 2 ^ (8 * (8 - width))) (spelled-drop (8 - width) (slice_range text (end - 8) end) (range_bytes text (end - 8) end inside bytes))
-    ∙ ap (λ s. spelled s * 2 ^ (8 * (8 - width))) (drop-range text (end - 8) (end - width) (8 - width) end (omega arith))
-    ∙ sym (spelled-zeros (8 - width) (slice_range text (end - width) end))
-
 -- what bytes spell fits as many bytes
 spelled_below : (bs : List ℕ) → AreBytes bs → spelled bs < 2 ^ (8 * length bs)
 spelled_below [] h = omega arith
@@ -164,11 +154,6 @@ spelled_below (b ∷ bs) h =
     let split : 2 ^ (8 * length (b ∷ bs)) ≡ 2 ^ (8 * length bs) * 256 = ap (λ k. 2 ^ k) whole ∙ pow-add 2 (8 * length bs) 8 in
     let rest = spelled_below bs (rest_bytes b bs h) in
     omega (arith, split, rest, first)
-
-pub spelled_fits : (text : List ℕ) (end : ℕ) → AreBytes text → 8 ≤ end → end ≤ length text → spelled (slice_range text (end - 8) end) < 2 ^ 64
-spelled_fits text end bytes room inside =
-    let len : length (slice_range text (end - 8) end) ≡ 8 = length-between text (end - 8) end inside ∙ omega arith in
-    subst (λ n. spelled (slice_range text (end - 8) end) < 2 ^ (8 * n)) len (spelled_below (slice_range text (end - 8) end) (range_bytes text (end - 8) end inside bytes))
 
 -- zeros in front are bytes too, and fold to themselves
 pub zeros_bytes : (n : ℕ) (bs : List ℕ) → AreBytes bs → AreBytes (replicate n 0 ++ bs)
@@ -181,6 +166,28 @@ zeros_bytes (suc n) bs h = zero_first (replicate n 0 ++ bs) (zeros_bytes n bs h)
 
     zero_first : (s : List ℕ) → AreBytes s → AreBytes (0 ∷ s)
     zero_first s h = record { small = at s h }
+
+-- where a word spells the bytes before a position, after zeros as eight, the key of its last bytes is the key there
+pub word_key : (fold : Fold) (text : List ℕ) (end width zeros word case : ℕ) → AreBytes text → width + zeros ≤ 8 → 8 ≤ end + zeros → end ≤ length text → word ≡ spelled (replicate zeros 0 ++ slice_range text (end - (8 - zeros)) end) → case ≡ case_bits fold
+    → masked_key word width case ≡ suffix_key fold text end width
+unfolding suffix_key
+word_key fold text end width zeros word case bytes narrow room inside is same =
+    let from : ℕ = end - (8 - zeros) in
+    let part : List ℕ = slice_range text from end in
+    let eight : List ℕ = replicate zeros 0 ++ part in
+    let high : ℕ = 8 * (8 - width) in
+    let small : AreBytes eight = zeros_bytes zeros part (range_bytes text from end inside bytes) in
+    let len : length eight ≡ 8 = omega (arith, length-append (replicate zeros 0) part, length-replicate {A = ℕ} zeros 0, length-between text from end inside) in
+    let fits : word < 2 ^ 64 = subst (λ n. n < 2 ^ 64) (sym is) (subst (λ n. spelled eight < 2 ^ (8 * n)) len (spelled_below eight small)) in
+    let back : 8 - width ≡ length (replicate {A = ℕ} zeros 0) + (8 - width - zeros) = omega (arith, length-replicate {A = ℕ} zeros 0) in
+    let last : bit_and word (suffix_mask width) ≡ spelled (replicate (8 - width) 0 ++ slice_range text (end - width) end) =
+    and_high_mask 64 high (omega arith) word fits
+    ∙ ap (λ n. n / 2 ^ high * 2 ^ high) is
+    ∙ ap (λ n. n * 2 ^ high) (spelled-drop (8 - width) eight small)
+    ∙ ap (λ n. spelled (drop n eight) * 2 ^ high) back
+    ∙ ap (λ s. spelled s * 2 ^ high) (drop-append-add (replicate zeros 0) part (8 - width - zeros) ∙ drop-range text from (end - width) (8 - width - zeros) end (omega arith))
+    ∙ sym (spelled-zeros (8 - width) (slice_range text (end - width) end)) in
+    λ i. bit_or (last i) (same i)
 
 folded-zeros : (fold : Fold) (n : ℕ) (bs : List ℕ) → folded_text fold (replicate n 0 ++ bs) ≡ replicate n 0 ++ folded_text fold bs
 folded-zeros fold zero bs = refl
@@ -215,14 +222,24 @@ same_key fold text t end width bytes narrow wide room inside is =
     ∙ ap (λ s. bit_or (spelled s) (case_bits fold)) fold_after
     ∙ sym literal
 
+-- the literal that occurs is the one at its place
+pub literal_is : (l : Literals) (text : List ℕ) (place end : ℕ) (occurs : Occurs l text place end) → occurs.literal ≡ literal_at l place
+literal_is l text place end occurs = sym (get_or_from_slice_get l.texts place occurs.literal [] occurs.stands)
+
 -- where a literal ends, the text has the literal's key
 pub key-occurs : (l : Literals) (text : List ℕ) (place end width : ℕ) → AreBytes text → width ≤ 8 → width ≤ length (literal_at l place) → Occurs l text place end
     → suffix_key l.folding text end width ≡ suffix_key l.folding (literal_at l place) (length (literal_at l place)) width
 key-occurs l text place end width bytes narrow wide occurs =
     let t = occurs.literal in
-    let is : t ≡ literal_at l place = sym (ap (λ o. unwrap_or o []) occurs.stands) ∙ unwrap_or-slice_get l.texts place [] in
+    let is = literal_is l text place end occurs in
     subst (λ u. width ≤ length u → suffix_key l.folding text end width ≡ suffix_key l.folding u (length u) width) is
     (λ w. same_key l.folding text t end width bytes narrow w occurs.begins occurs.ends occurs.bytes) wide
+
+-- and so has a word that spells the last eight bytes
+pub word-occurs : (l : Literals) (text : List ℕ) (place end width word case : ℕ) → AreBytes text → width ≤ 8 → 8 ≤ end → width ≤ length (literal_at l place) → word ≡ spelled (slice_range text (end - 8) end) → case ≡ case_bits l.folding → Occurs l text place end
+    → masked_key word width case ≡ last_key l width place
+word-occurs l text place end width word case bytes narrow room wide is same occurs =
+    word_key l.folding text end width 0 word case bytes (omega arith) (omega arith) occurs.ends is same ∙ key-occurs l text place end width bytes narrow wide occurs
 
 -- and so the text has, so far before where a literal ends, the key that the literal has there
 same_key_inside : (fold : Fold) (text t : List ℕ) (end width back : ℕ) → AreBytes text → width ≤ 8 → width + back ≤ length t → length t ≤ end → end ≤ length text → folded_text fold (slice_range text (end - length t) end) ≡ t
@@ -245,7 +262,7 @@ pub key-occurs_inside : (l : Literals) (text : List ℕ) (place end width back :
     → suffix_key l.folding text (end - back) width ≡ suffix_key l.folding (literal_at l place) (length (literal_at l place) - back) width
 key-occurs_inside l text place end width back bytes narrow wide occurs =
     let t = occurs.literal in
-    let is : t ≡ literal_at l place = sym (ap (λ o. unwrap_or o []) occurs.stands) ∙ unwrap_or-slice_get l.texts place [] in
+    let is = literal_is l text place end occurs in
     subst (λ u. width + back ≤ length u → suffix_key l.folding text (end - back) width ≡ suffix_key l.folding u (length u - back) width) is
     (λ w. same_key_inside l.folding text t end width back bytes narrow w occurs.begins occurs.ends occurs.bytes) wide
 

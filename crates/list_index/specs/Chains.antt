@@ -4,7 +4,7 @@ use Rattle.std.specs.Int.{bit_at}
 use Rattle.list_index.specs.declared.suffixes.chains.SuffixChains.{SuffixChains}
 use Rattle.lit_base.specs.Literals.{Literals, literal_at}
 use Rattle.lit_base.specs.Occurrences.{Occurs}
-use Rattle.list_index.specs.Suffixes.{hash_of, suffix_key, key_width}
+use Rattle.list_index.specs.Suffixes.{hash_of, key_width, last_key, suffix_key}
 
 -- next is the first number from low on with this hash, or count if there is none below count
 pub record IsNextWith (hash_at : ℕ → ℕ) (count hash low next : ℕ) : Type 0 where
@@ -28,7 +28,7 @@ key_width_at l place = key_width (length (literal_at l place))
 
 -- the key of the literal at a place
 abbrev pub key_at : Literals → ℕ → ℕ
-key_at l place = suffix_key l.folding (literal_at l place) (length (literal_at l place)) (key_width_at l place)
+key_at l place = last_key l (key_width_at l place) place
 
 -- all literals are chained, each by its key
 pub record AreChainsOf (l : Literals) (chains : SuffixChains) : Type 0 where

@@ -1,6 +1,7 @@
 -- Keys of the last bytes of a text, by which the literals that may end there are found.
-use Rattle.std.specs.Prelude.{ℕ, ◌+◌, ◌-◌, ◌*◌, ◌/◌, ◌%◌, ◌^◌, min, List, [], ◌∷◌, ◌++◌, replicate, slice_range}
-use Rattle.std.specs.Int.RustNames.{bit_or}
+use Rattle.std.specs.Prelude.{ℕ, ◌+◌, ◌-◌, ◌*◌, ◌/◌, ◌%◌, ◌^◌, min, List, [], ◌∷◌, ◌++◌, length, replicate, slice_range}
+use Rattle.std.specs.Int.RustNames.{bit_and, bit_or}
+use Rattle.lit_base.specs.Literals.{Literals, literal_at}
 use Rattle.lit_base.specs.declared.fold.Fold.{Fold}
 use Rattle.lit_base.specs.declared.fold.Fold.TheVariants.{No, Ascii}
 
@@ -19,8 +20,12 @@ unfoldable pub suffix_key : Fold → List ℕ → ℕ → ℕ → ℕ
 suffix_key fold text end width = bit_or (spelled (replicate (8 - width) 0 ++ slice_range text (end - width) end)) (case_bits fold)
 
 -- the bits of the last bytes of eight
-abbrev pub last_bits : ℕ → ℕ
-last_bits width = 2 ^ 64 - 2 ^ (8 * (8 - width))
+abbrev pub suffix_mask : ℕ → ℕ
+suffix_mask width = 2 ^ 64 - 2 ^ (8 * (8 - width))
+
+-- the key of the last bytes of the eight that a word spells, with these bits of letter case
+abbrev pub masked_key : ℕ → ℕ → ℕ → ℕ
+masked_key word width case = bit_or (bit_and word (suffix_mask width)) case
 
 -- the hash of a key, of this many bits
 unfoldable pub hash_of : ℕ → ℕ → ℕ
@@ -29,3 +34,7 @@ hash_of bits key = key * 11400714819323198485 % 18446744073709551616 / 2 ^ (64 -
 -- the key width of a literal: its length, up to eight
 abbrev pub key_width : ℕ → ℕ
 key_width len = min len 8
+
+-- the key of the last bytes of the literal at a place
+abbrev pub last_key : Literals → ℕ → ℕ → ℕ
+last_key l width place = suffix_key l.folding (literal_at l place) (length (literal_at l place)) width

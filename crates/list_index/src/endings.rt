@@ -33,49 +33,29 @@ impl<'a> Model for Endings<'a> {
     ghost invariant = { IsReady };
 }
 
-impl<'a> Endings<'a> {
-    /// The literals from place `from` on that end at `end`.
+impl ListIndex {
+    /// The literals that end at `end` in the text after the literal at `place`, which ends there, in order. It looks up
+    /// the bytes before `end` only once, and searches for no other literal as short: none ends there.
     #[inline]
-    pub(crate) fn new(list: &'a ListIndex, text: &'a [u8], end: usize, from: usize) -> Endings<'a>
-        requires { end ≤ length text.now }
-        ensures literals { result.literals ≡ list.now }
-        ensures text { result.text ≡ text.now }
-        ensures end { result.end ≡ end }
-        ensures from { result.from ≡ from }
-    {
-        Endings {
-            list,
-            text,
-            end,
-            from,
-            widths: list.suffixes.widths_at(text, end),
-        }
-    }
-
-    /// The literals that end at `end` after the literal at `place`, which ends there.
-    #[inline]
-    pub(crate) fn after(
-        list: &'a ListIndex,
-        text: &'a [u8],
-        end: usize,
-        place: usize,
-    ) -> Endings<'a>
-        requires { Occurs list.now text.now place end }
-        ensures literals { result.literals ≡ list.now }
+    pub fn endings_after<'a>(&'a self, text: &'a [u8], end: usize, place: usize) -> Endings<'a>
+        requires { Occurs self.now text.now place end }
+        ensures literals { result.literals ≡ self.now }
         ensures text { result.text ≡ text.now }
         ensures end { result.end ≡ end }
         ensures from { result.from ≡ place + 1 }
     {
-        let len = list.list.get(place).len();
+        let len = self.list.get(place).len();
         Endings {
-            list,
+            list: self,
             text,
             end,
             from: place + 1,
-            widths: widths_after(list.suffixes.widths_at(text, end), len),
+            widths: widths_after(self.suffixes.widths_at(text, end), len),
         }
     }
+}
 
+impl<'a> Endings<'a> {
     /// The next literal that ends there, or `None` if no literal remains.
     #[inline]
     pub fn next(&mut self) -> Option<usize>

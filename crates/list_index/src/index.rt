@@ -8,7 +8,6 @@ ghost use Rattle.list_index.specs.Alone.{IsAlone};
 ghost use Rattle.lit_base.specs.declared.limits.TheConstants.{MAX_LITERALS};
 
 use crate::alone::ends_alone;
-use crate::endings::Endings;
 use crate::suffixes::Suffixes;
 use lit_base::{Fold, LitList};
 use std::alloc::{AllocError, Global};
@@ -133,32 +132,6 @@ impl ListIndex {
             return self.only_ending(text, end, from);
         }
         self.suffixes.next_ending(&self.list, text, end, from)
-    }
-
-    /// The literals from place `from` on that end at `end` in the text, in order. To get all of them use it rather than
-    /// `next_ending`: it looks up the bytes before `end` only once.
-    #[inline]
-    pub fn endings<'a>(&'a self, text: &'a [u8], end: usize, from: usize) -> Endings<'a>
-        requires { end ≤ length text.now }
-        ensures literals { result.literals ≡ self.now }
-        ensures text { result.text ≡ text.now }
-        ensures end { result.end ≡ end }
-        ensures from { result.from ≡ from }
-    {
-        Endings::new(self, text, end, from)
-    }
-
-    /// The literals that end at `end` in the text after the literal at `place`, which ends there. It gives the same as
-    /// `endings` from the next place on, and searches for no other literal as short: none ends there.
-    #[inline]
-    pub fn endings_after<'a>(&'a self, text: &'a [u8], end: usize, place: usize) -> Endings<'a>
-        requires { Occurs self.now text.now place end }
-        ensures literals { result.literals ≡ self.now }
-        ensures text { result.text ≡ text.now }
-        ensures end { result.end ≡ end }
-        ensures from { result.from ≡ place + 1 }
-    {
-        Endings::after(self, text, end, place)
     }
 
     /// The first of the literals that ends at `end` in the text, if there is one. It gives the same as `next_ending`

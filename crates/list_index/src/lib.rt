@@ -9,5 +9,5 @@ mod suffixes;
 pub use endings::Endings;
 pub use index::ListIndex;
 pub use suffixes::{
-    HASH_BITS, case_bits, hash_of, is_marked, last_bits, last_word, mark, mark_literal, suffix_key,
+    HASH_BITS, case_bits, has_bit, hash_of, last_word, masked_key, set_hash_bit, suffix_key,
 };

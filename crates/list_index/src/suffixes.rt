@@ -15,8 +15,8 @@ ghost use Rattle.list_index.specs.declared.suffixes.checks.TheConstants.{CHECK_B
 use crate::suffixes::chains::SuffixChains;
 use crate::suffixes::checks::SuffixChecks;
 use crate::suffixes::hash_bits::HashBits;
-pub use crate::suffixes::hash_bits::{HASH_BITS, is_marked, mark, mark_literal};
-pub use crate::suffixes::key::{case_bits, hash_of, last_bits, last_word, suffix_key};
+pub use crate::suffixes::hash_bits::{HASH_BITS, has_bit, set_hash_bit};
+pub use crate::suffixes::key::{case_bits, hash_of, last_word, masked_key, suffix_key};
 use lit_base::LitList;
 use std::alloc::{AllocError, Global};
 

@@ -20,13 +20,11 @@ use Rattle.lit_base.specs.declared.fold.Fold.{Fold}
 use Rattle.lit_base.specs.declared.fold.Fold.TheVariants.{No, Ascii}
 use Rattle.lit_base.specs.Literals.{Literals, literal_at}
 use Rattle.lit_base.specs.Occurrences.{HasEnd, IsFirstEnding, NoneEnds, Occurs}
-use Rattle.list_index.specs.Suffixes.{case_bits, hash_of, last_bits, spelled, suffix_key}
-use Rattle.list_index.proofs.SuffixLemmas.{AreBytes, drop-range, key-occurs, key-occurs_inside, masked, range_bytes, spelled-drop, spelled_fits, zeros_bytes}
+use Rattle.list_index.specs.Suffixes.{case_bits, spelled, suffix_key}
+use Rattle.list_index.proofs.SuffixLemmas.{AreBytes, drop-range, key-occurs_inside, range_bytes, spelled-drop, zeros_bytes}
 use Rattle.shift_search.specs.Probes.{AreProbes, IsVerified}
 use Rattle.lit_base.specs.NextEnds.{Finds, IsFirstFound, NoEndUpTo}
-use Rattle.shift_search.specs.ShiftOr.{AreConfirmsOf, AreEntriesOf, Bucketing, LetThrough, NoneOf, RulesOut, RulesOutWords, bucket_at, last_number_at, number_at, pair_case_bits}
-use Rattle.shift_search.specs.declared.confirming.Confirms.{Confirms}
-use Rattle.shift_search.specs.declared.confirming.TheConstants.{CONFIRM_BITS}
+use Rattle.shift_search.specs.ShiftOr.{AreEntriesOf, Bucketing, LetThrough, NoneOf, RulesOut, RulesOutWords, bucket_at, last_number_at, number_at, pair_case_bits}
 use Rattle.shift_search.specs.declared.entries.TheConstants.{ENTRIES}
 use Rattle.shift_search.specs.declared.probes.Probes.{Probes}
 
@@ -447,24 +445,3 @@ ruled_by_pair b text entries at entry bytes some inside are is =
 -- two words together lack the bits that either lacks
 pub and_zero : (a b i : ℕ) → bit_at a i ≡ 0 → bit_at (bit_and a b) i ≡ 0
 and_zero a b i none = omega (arith, bit_at_and a b i, none)
-
--- the last bits of the number that eight bytes spell, without the case of letters, are the key of its last bytes
-own_key : (fold : Fold) (text : List ℕ) (end width word bits : ℕ) → AreBytes text → width ≤ 8 → 8 ≤ end → end ≤ length text → word < 2 ^ 64 → word ≡ spelled (slice_range text (end - 8) end) → bits ≡ case_bits fold
-    → bit_or (bit_and word (last_bits width)) bits ≡ suffix_key fold text end width
-unfolding suffix_key
-own_key fold text end width word bits bytes narrow eight inside fits is case = λ i. bit_or (masked text end width word bytes narrow eight inside fits is i) (case i)
-
--- where a literal ends, the table has the bit of its bucket at the hash of the bytes before the end
-pub confirmed-occurs : (l : Literals) (buckets : List ℕ) (confirms : Confirms) (text : List ℕ) (place end word width : ℕ) → AreConfirmsOf l buckets confirms → AreBytes text → 8 ≤ end → end ≤ length text
-    → word ≡ spelled (slice_range text (end - 8) end) → width ≡ slice_index confirms.widths.items (bucket_at buckets place) → Occurs l text place end
-    → bit_at (slice_index confirms.table.items (hash_of CONFIRM_BITS (bit_or (bit_and word (last_bits width)) confirms.case_bits))) (bucket_at buckets place) ≡ 1
-confirmed-occurs l buckets confirms text place end word width of bytes eight inside is known occurs =
-    let there = slice_get_within l.texts place occurs.literal occurs.stands in
-    let bucket : ℕ = bucket_at buckets place in
-    let narrow : width ≤ 8 = omega (arith, known, of.narrow bucket (few_buckets buckets place)) in
-    let fits : word < 2 ^ 64 = subst (λ n. n < 2 ^ 64) (sym is) (spelled_fits text end bytes eight inside) in
-    let key : bit_or (bit_and word (last_bits width)) confirms.case_bits ≡ suffix_key l.folding (literal_at l place) (length (literal_at l place)) width =
-    own_key l.folding text end width word confirms.case_bits bytes narrow eight inside fits is of.case ∙ key-occurs l text place end width bytes narrow (omega (arith, known, of.long place there)) occurs in
-    ap (λ k. bit_at (slice_index confirms.table.items (hash_of CONFIRM_BITS k)) bucket) key
-    ∙ ap (λ w. bit_at (slice_index confirms.table.items (hash_of CONFIRM_BITS (suffix_key l.folding (literal_at l place) (length (literal_at l place)) w))) bucket) known
-    ∙ of.confirmed place there

@@ -3,9 +3,9 @@ use Rattle.std.specs.Prelude.{◌≡◌, ℕ, ◌+◌, ◌-◌, ◌*◌, ◌%◌
 use Rattle.std.specs.Int.{bit_at}
 use Rattle.std.specs.Int.RustNames.{bit_or}
 use Rattle.lit_base.specs.Literals.{Literals, literal_at}
-use Rattle.list_index.specs.HashBits.{IsMarked}
+use Rattle.list_index.specs.HashBits.{AreKeyBits}
 use Rattle.lit_base.specs.Occurrences.{Occurs}
-use Rattle.list_index.specs.Suffixes.{case_bits, hash_of, suffix_key}
+use Rattle.list_index.specs.Suffixes.{case_bits, last_key, suffix_key}
 use Rattle.lit_base.specs.declared.fold.Fold.{Fold}
 use Rattle.shift_search.specs.declared.confirming.Confirms.{Confirms}
 use Rattle.shift_search.specs.declared.confirming.TheConstants.{CONFIRM_BITS}
@@ -100,24 +100,19 @@ pub record AreEntriesOf (l : Literals) (buckets entries : List ℕ) : Type 0 whe
   pub through : LetThrough l buckets entries (length l.texts)
   pub alike : (number : ℕ) → number < ENTRIES → slice_index entries number ≡ slice_index entries (bit_or number (pair_case_bits l.folding))
 
--- a table confirms a literal of a bucket: the bucket has its bit at the hash of the last `width` bytes
-abbrev pub IsConfirmed : Fold → List ℕ → ℕ → List ℕ → ℕ → Type 0
-IsConfirmed fold table width literal bucket = IsMarked table (hash_of CONFIRM_BITS (suffix_key fold literal (length literal) width)) bucket
+-- the buckets have key lengths from one to eight bytes, and none of the first literals is shorter than its bucket's
+pub record AreWidthsOf (l : Literals) (buckets widths : List ℕ) (count : ℕ) : Type 0 where
+  pub eight : length widths ≡ 8
+  pub some : (bucket : ℕ) → bucket < 8 → 0 < slice_index widths bucket
+  pub narrow : (bucket : ℕ) → bucket < 8 → slice_index widths bucket ≤ 8
+  pub long : (place : ℕ) → place < count → slice_index widths (bucket_at buckets place) ≤ length (literal_at l place)
 
--- a bucket's bit at a number is that of one of its literals, one of the first of a list
-pub record IsConfirmOf (l : Literals) (buckets widths : List ℕ) (count number bucket : ℕ) : Type 0 where
-  pub place : ℕ
-  pub within : place < count
-  pub its : bucket ≡ bucket_at buckets place
-  pub hash : number ≡ hash_of CONFIRM_BITS (suffix_key l.folding (literal_at l place) (length (literal_at l place)) (slice_index widths (bucket_at buckets place)))
+-- the key of the literal at a place by the key length of its bucket
+abbrev pub bucket_key : Literals → List ℕ → List ℕ → ℕ → ℕ
+bucket_key l buckets widths place = last_key l (slice_index widths (bucket_at buckets place)) place
 
--- each literal is confirmed by the key length of its bucket, which no literal of the bucket is shorter than, nothing else is, and there is room for every hash
+-- each literal's key has the bit of its bucket, and nothing else has
 pub record AreConfirmsOf (l : Literals) (buckets : List ℕ) (confirms : Confirms) : Type 0 where
   pub case : confirms.case_bits ≡ case_bits l.folding
-  pub room : length confirms.table.items ≡ 2 ^ CONFIRM_BITS
-  pub eight : length confirms.widths.items ≡ 8
-  pub some : (bucket : ℕ) → bucket < 8 → 0 < slice_index confirms.widths.items bucket
-  pub narrow : (bucket : ℕ) → bucket < 8 → slice_index confirms.widths.items bucket ≤ 8
-  pub long : (place : ℕ) → place < length l.texts → slice_index confirms.widths.items (bucket_at buckets place) ≤ length (literal_at l place)
-  pub confirmed : (place : ℕ) → place < length l.texts → IsConfirmed l.folding confirms.table.items (slice_index confirms.widths.items (bucket_at buckets place)) (literal_at l place) (bucket_at buckets place)
-  pub only : (number bucket : ℕ) → IsMarked confirms.table.items number bucket → IsConfirmOf l buckets confirms.widths.items (length l.texts) number bucket
+  pub widths : AreWidthsOf l buckets confirms.widths.items (length l.texts)
+  pub bits : AreKeyBits CONFIRM_BITS (bucket_key l buckets confirms.widths.items) (bucket_at buckets) (length l.texts) confirms.table.items

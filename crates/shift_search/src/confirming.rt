@@ -1,14 +1,12 @@
 //! A second check of shift-or, bucket by bucket, before any chain of literals is walked.
-ghost use Rattle.std.specs.Prelude.{◌≡◌, ℕ, ◌^◌, ◌<◌, ◌≤◌, ◌⊎◌, IfOk, length, slice_index, vec_len};
-ghost use Rattle.lit_base.specs.Literals.{literal_at};
-ghost use Rattle.list_index.specs.HashBits.{IsMarked};
-ghost use Rattle.list_index.specs.Suffixes.{hash_of, suffix_key};
-ghost use Rattle.shift_search.specs.ShiftOr.{AreConfirmsOf, IsConfirmOf, IsConfirmed, bucket_at};
+ghost use Rattle.std.specs.Prelude.{◌≡◌, ℕ, ◌<◌, ◌≤◌, IfOk, length, slice_index, vec_len};
+ghost use Rattle.list_index.specs.HashBits.{AreKeyBits};
+ghost use Rattle.shift_search.specs.ShiftOr.{AreConfirmsOf, AreWidthsOf, bucket_at, bucket_key};
 ghost use Rattle.shift_search.specs.declared.confirming.TheConstants.{CONFIRM_BITS};
 
 use crate::entries::{BUCKETS, bucket_of};
-use list_index::{case_bits, hash_of, mark, suffix_key};
-use lit_base::{Fold, LitList};
+use list_index::{case_bits, set_hash_bit, suffix_key};
+use lit_base::LitList;
 use std::alloc::{AllocError, Global};
 
 /// Bits of a hash here. A byte for each takes 8 KiB, which stay in the first-level cache.
@@ -48,13 +46,8 @@ impl Confirms {
 /// Reduces each bucket's key length to the length of its shortest literal.
 fn narrow_all(list: &LitList, buckets: &Vec<u8>, widths: &mut Vec<usize>)
     requires buckets { vec_len buckets.now ≡ length list.now.texts }
-    requires eight { vec_len widths.old ≡ 8 }
-    requires some { (bucket : ℕ) → bucket < 8 → 0 < slice_index widths.old.items bucket }
-    requires narrow { (bucket : ℕ) → bucket < 8 → slice_index widths.old.items bucket ≤ 8 }
-    ensures eight { vec_len widths.new ≡ 8 }
-    ensures some { (bucket : ℕ) → bucket < 8 → 0 < slice_index widths.new.items bucket }
-    ensures narrow { (bucket : ℕ) → bucket < 8 → slice_index widths.new.items bucket ≤ 8 }
-    ensures long { (place : ℕ) → place < length list.now.texts → slice_index widths.new.items (bucket_at buckets.now.items place) ≤ length (literal_at list.now place) }
+    requires widths { AreWidthsOf list.now buckets.now.items widths.old.items 0 }
+    ensures { AreWidthsOf list.now buckets.now.items widths.new.items (length list.now.texts) }
 {
     for place in 0..list.len() {
         narrow(widths, bucket_of(buckets, place), list.get(place).len());
@@ -76,35 +69,14 @@ fn narrow(widths: &mut Vec<usize>, bucket: usize, len: usize)
 /// Sets the bit of each literal.
 fn confirm_all(list: &LitList, buckets: &Vec<u8>, widths: &Vec<usize>, table: &mut Vec<u8>)
     requires buckets { vec_len buckets.now ≡ length list.now.texts }
-    requires eight { vec_len widths.now ≡ 8 }
-    requires some { (bucket : ℕ) → bucket < 8 → 0 < slice_index widths.now.items bucket }
-    requires narrow { (bucket : ℕ) → bucket < 8 → slice_index widths.now.items bucket ≤ 8 }
-    requires long { (place : ℕ) → place < length list.now.texts → slice_index widths.now.items (bucket_at buckets.now.items place) ≤ length (literal_at list.now place) }
-    requires room { vec_len table.old ≡ 2 ^ CONFIRM_BITS }
-    ensures room { vec_len table.new ≡ 2 ^ CONFIRM_BITS }
-    ensures confirmed { (place : ℕ) → place < length list.now.texts → IsConfirmed list.now.folding table.new.items (slice_index widths.now.items (bucket_at buckets.now.items place)) (literal_at list.now place) (bucket_at buckets.now.items place) }
-    ensures only { (number bucket : ℕ) → IsMarked table.new.items number bucket
-        → (IsMarked table.old.items number bucket) ⊎ IsConfirmOf list.now buckets.now.items widths.now.items (length list.now.texts) number bucket }
+    requires widths { AreWidthsOf list.now buckets.now.items widths.now.items (length list.now.texts) }
+    requires none { AreKeyBits CONFIRM_BITS (bucket_key list.now buckets.now.items widths.now.items) (bucket_at buckets.now.items) 0 table.old.items }
+    ensures { AreKeyBits CONFIRM_BITS (bucket_key list.now buckets.now.items widths.now.items) (bucket_at buckets.now.items) (length list.now.texts) table.new.items }
 {
     for place in 0..list.len() {
         let bucket = bucket_of(buckets, place);
-        confirm(table, list.fold(), list.get(place), widths[bucket], bucket);
+        let literal = list.get(place);
+        let key = suffix_key(list.fold(), literal, literal.len(), widths[bucket]);
+        set_hash_bit(table, CONFIRM_BITS, key, bucket);
     }
-}
-
-/// Sets the bit of a bucket at the hash of a literal's last bytes.
-fn confirm(table: &mut Vec<u8>, fold: Fold, literal: &[u8], width: usize, bucket: usize)
-    requires some { 0 < width }
-    requires narrow { width ≤ 8 }
-    requires long { width ≤ length literal.now }
-    requires bucket { bucket < 8 }
-    requires room { vec_len table.old ≡ 2 ^ CONFIRM_BITS }
-    ensures room { vec_len table.new ≡ vec_len table.old }
-    ensures confirmed { IsConfirmed fold table.new.items width literal.now bucket }
-    ensures kept { (number other : ℕ) → IsMarked table.old.items number other → IsMarked table.new.items number other }
-    ensures only { (number other : ℕ) → IsMarked table.new.items number other
-        → (IsMarked table.old.items number other) ⊎ ((number ≡ hash_of CONFIRM_BITS (suffix_key fold literal.now (length literal.now) width)) × (other ≡ bucket)) }
-{
-    let key = suffix_key(fold, literal, literal.len(), width);
-    mark(table, hash_of(CONFIRM_BITS, key), bucket);
 }

@@ -6,13 +6,6 @@ ghost use Rattle.shift_search.specs.declared.entries.TheConstants.{ENTRIES};
 use crate::joining::{FourRuled, Ruled};
 use std::simd::prelude::*;
 
-/// The distance of the positions that a search probes.
-#[derive(Clone, Copy, Debug)]
-pub(crate) enum Stride {
-    One,
-    Two,
-}
-
 /// The number that the two bytes before a position spell, with the last byte as the high one. It is read as a vector,
 /// since the compiler then loads both bytes at once.
 #[inline(always)]
@@ -52,21 +45,23 @@ fn four_entries_at(entries: &[u64], text: &[u8], at: usize) -> u64x4
     ])
 }
 
-/// What probes at this stride rule out, at the eight positions from `at` on.
+/// What probes at the eight positions from `at` on rule out, at each position or at every second one. The step is a
+/// constant, so that each search has a loop of its own.
 #[inline(always)]
-pub(crate) fn probes_by(entries: &[u64], text: &[u8], at: usize, stride: Stride) -> Ruled
+pub(crate) fn probes_from<const STEP: usize>(entries: &[u64], text: &[u8], at: usize) -> Ruled
     requires all { length entries.now ≡ ENTRIES }
     requires two { 2 ≤ at }
     requires inside { at + 7 ≤ length text.now }
     ensures { (b : Bucketing) → AreEntriesOf b.literals b.buckets entries.now → IsRuled b text.now at result }
 {
-    match stride {
-        Stride::One => each_probe(entries, text, at),
-        Stride::Two => every_second_probe(entries, text, at),
+    if STEP == 1 {
+        each_probe(entries, text, at)
+    } else {
+        every_second_probe(entries, text, at)
     }
 }
 
-/// As above, at every second position.
+/// As `probes_from`, at every second position.
 #[inline(always)]
 fn every_second_probe(entries: &[u64], text: &[u8], at: usize) -> Ruled
     requires all { length entries.now ≡ ENTRIES }
@@ -80,7 +75,7 @@ fn every_second_probe(entries: &[u64], text: &[u8], at: usize) -> Ruled
     third.and_by(entry_at(entries, text, at + 6), 6)
 }
 
-/// As above, at each position.
+/// As `probes_from`, at each position.
 #[inline(always)]
 fn each_probe(entries: &[u64], text: &[u8], at: usize) -> Ruled
     requires all { length entries.now ≡ ENTRIES }
@@ -95,8 +90,7 @@ fn each_probe(entries: &[u64], text: &[u8], at: usize) -> Ruled
     third.and_by(entry_at(entries, text, at + 7), 7)
 }
 
-/// What probes at the 32 positions from `at` on rule out, at each position or at every second one. The step is a
-/// constant, so that each search has a loop of its own.
+/// As `probes_from`, at the 32 positions from `at` on.
 #[inline(always)]
 pub(crate) fn four_probes<const STEP: usize>(entries: &[u64], text: &[u8], at: usize) -> FourRuled
     requires all { length entries.now ≡ ENTRIES }
@@ -111,7 +105,7 @@ pub(crate) fn four_probes<const STEP: usize>(entries: &[u64], text: &[u8], at: u
     }
 }
 
-/// As above, at every second position.
+/// As `four_probes`, at every second position.
 #[inline(always)]
 fn four_second_probes(entries: &[u64], text: &[u8], at: usize) -> FourRuled
     requires all { length entries.now ≡ ENTRIES }
@@ -125,7 +119,7 @@ fn four_second_probes(entries: &[u64], text: &[u8], at: usize) -> FourRuled
     third.and_by(four_entries_at(entries, text, at + 6), 6)
 }
 
-/// As above, at each position.
+/// As `four_probes`, at each position.
 #[inline(always)]
 fn four_each_probes(entries: &[u64], text: &[u8], at: usize) -> FourRuled
     requires all { length entries.now ≡ ENTRIES }

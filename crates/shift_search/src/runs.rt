@@ -1,10 +1,8 @@
 //! Which literals share a bucket of shift-or. The choice changes the time of a search, never its result.
 ghost use Rattle.std.specs.Prelude.{◌≡◌, ◌≤◌, length, vec_len};
 
+use crate::entries::BUCKETS;
 use lit_base::LitList;
-
-/// Buckets, each with a bit in a byte.
-const BUCKETS: usize = 8;
 
 /// By the length of a bucket's shortest literal, from 0 bytes on. The bucket's weight is this, times the cube of its
 /// number of literals. It falls by a factor of five for each byte, which is one more probe that may rule an end out, up

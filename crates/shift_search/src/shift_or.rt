@@ -15,20 +15,27 @@ use crate::entries::{ENTRIES, PLACES, fill_all};
 use crate::joining::{lacking, last_alone, last_of};
 use crate::prices::{cost_of, estimate};
 use crate::probes::{Probes, Verified, bits_after};
-use crate::probing::{Stride, four_probes, probes_by};
+use crate::probing::{four_probes, probes_from};
 use crate::runs::cut_runs;
 use crate::tuning::NEAR;
 use lane_filter::split_lowest;
-use list_index::{ListIndex, hash_of, is_marked, last_bits, last_word};
+use list_index::{ListIndex, has_bit, hash_of, last_word, masked_key};
 use std::alloc::{AllocError, Global};
 use std::marker::Model;
 use std::simd::prelude::*;
 use std::sync::Arc;
-use text_ends::EndRate;
+use text_ends::{EndRate, Tally};
 
 /// Bytes at the start of a text that are searched without probes. After them, eight positions can be probed before the
 /// first end, with eight bytes before each.
 const FIRST: usize = 15;
+
+/// The distance of the positions that a search probes.
+#[derive(Clone, Copy, Debug)]
+enum Stride {
+    One,
+    Two,
+}
 
 /// A position up to which nothing ends, what the last probes rule out after it, and from where on blocks may be tried.
 #[derive(Clone, Copy)]
@@ -113,8 +120,8 @@ impl ShiftOr {
             // Unreachable: the entries are made.
             return usize::MAX;
         };
-        let by_one = estimate(entries, sample, Stride::One, rate);
-        let by_two = estimate(entries, sample, Stride::Two, rate);
+        let by_one = estimate::<1>(entries, sample, rate);
+        let by_two = estimate::<2>(entries, sample, rate);
         self.stride = if by_two < by_one {
             Stride::Two
         } else {
@@ -143,10 +150,13 @@ impl ShiftOr {
         Some(self.entries.as_slice())
     }
 
-    /// The cost of a search of `count` bytes with `left` false positives and the ends `found`, in tenths of a
-    /// nanosecond. The work that factors also do at each end is not included.
-    pub fn cost_of(&self, count: usize, left: usize, found: EndRate) -> usize {
-        cost_of(count, left, found, self.stride)
+    /// The cost of a search of `count` bytes with these false positives and the ends `found`, in tenths of a nanosecond.
+    /// The work that factors also do at each end is not included.
+    pub fn cost_of(&self, count: usize, false_positives: usize, found: EndRate) -> usize {
+        match self.stride {
+            Stride::One => cost_of::<1>(count, false_positives, found),
+            Stride::Two => cost_of::<2>(count, false_positives, found),
+        }
     }
 
     /// The state of a search after a position.
@@ -176,19 +186,23 @@ impl ShiftOr {
         let Some(entries) = self.made_entries() else {
             return 0;
         };
-        probes_by(entries, text, at - PLACES, self.stride).after
+        let before = at - PLACES;
+        match self.stride {
+            Stride::One => probes_from::<1>(entries, text, before).after,
+            Stride::Two => probes_from::<2>(entries, text, before).after,
+        }
     }
 
     /// The first position of the text after `from` at which some literal ends, wherever it begins, with the first such
-    /// literal. `probes` is the state of a search after `from`, and then its state after this end. Adds the false
-    /// positives, counted for each bucket, to `left`. It takes no memory.
+    /// literal. `probes` is the state of a search after `from`, and then its state after this end. Counts the false
+    /// positives, for each bucket, in `tally`. It takes no memory.
     #[inline(never)]
     pub fn next_by(
         &self,
         text: &[u8],
         from: usize,
         probes: &mut Probes,
-        left: &mut usize,
+        tally: &mut Tally,
     ) -> Option<(usize, usize)>
         requires { AreProbesAfter self.now text.now from probes.old }
         ensures next { Finds self.now.literals text.now from (length text.now) result }
@@ -198,9 +212,10 @@ impl ShiftOr {
         let Some(entries) = self.made_entries() else {
             return self.next_without_entries(text, from, probes);
         };
+        let false_positives = &mut tally.marked;
         match self.stride {
-            Stride::One => self.next_by_step::<1>(entries, text, from, probes, left),
-            Stride::Two => self.next_by_step::<2>(entries, text, from, probes, left),
+            Stride::One => self.next_by_step::<1>(entries, text, from, probes, false_positives),
+            Stride::Two => self.next_by_step::<2>(entries, text, from, probes, false_positives),
         }
     }
 
@@ -231,7 +246,7 @@ impl ShiftOr {
         text: &[u8],
         from: usize,
         probes: &mut Probes,
-        left: &mut usize,
+        false_positives: &mut usize,
     ) -> Option<(usize, usize)>
         requires entries { AreEntriesOf self.now.literals self.now.buckets entries.now }
         requires probes { AreProbesAfter self.now text.now from probes.old }
@@ -242,7 +257,7 @@ impl ShiftOr {
         if let Some(found) = self.end_in_prefix(text, from) {
             return Some(found);
         }
-        if let Some(found) = self.end_left(text, *probes, left) {
+        if let Some(found) = self.end_left(text, *probes, false_positives) {
             *probes = found.probes;
             return Some((found.end, found.first));
         }
@@ -260,12 +275,18 @@ impl ShiftOr {
             at += 4 * PLACES;
             if lacking(ruled) != 0 {
                 let carried = last_of(before);
-                if let Some(found) = self.verify_four(text, ahead, ruled, carried, left) {
+                if let Some(found) = self.verify_four(
+                    text,
+                    ahead,
+                    ruled,
+                    carried,
+                    false_positives,
+                ) {
                     *probes = found.probes;
                     return Some((found.end, found.first));
                 }
                 let here = Quiet { at, carried, far };
-                let quiet = self.skip_if_open::<STEP>(opened, entries, text, here, left);
+                let quiet = self.skip_if_open::<STEP>(opened, entries, text, here, false_positives);
                 at = quiet.at;
                 before = last_alone(quiet.carried);
                 far = quiet.far;
@@ -277,7 +298,7 @@ impl ShiftOr {
             unruled: 0,
             carried: last_of(before),
         };
-        self.next_by_eights(entries, text, from, rest, probes, left)
+        self.next_by_eights::<STEP>(entries, text, from, rest, probes, false_positives)
     }
 
     /// Continues as `skip_blocks` does, if blocks may be tried here and the last group with an end that was not ruled
@@ -289,7 +310,7 @@ impl ShiftOr {
         entries: &[u64],
         text: &[u8],
         here: Quiet,
-        left: &mut usize,
+        false_positives: &mut usize,
     ) -> Quiet
         requires entries { AreEntriesOf self.now.literals self.now.buckets entries.now }
         requires carried { RulesOut self.now text.now (here.at + 8) here.carried }
@@ -301,7 +322,7 @@ impl ShiftOr {
         if here.at < here.far || here.at.saturating_sub(opened) >= NEAR {
             return here;
         }
-        self.skip_blocks::<STEP>(entries, text, here.at, here.carried, left)
+        self.skip_blocks::<STEP>(entries, text, here.at, here.carried, false_positives)
     }
 
     /// Continues block by block while nothing ends in a block and some groups are noted. Nothing ends up to the start.
@@ -312,7 +333,7 @@ impl ShiftOr {
         text: &[u8],
         from: usize,
         carried: u64,
-        left: &mut usize,
+        false_positives: &mut usize,
     ) -> Quiet
         requires entries { AreEntriesOf self.now.literals self.now.buckets entries.now }
         requires carried { RulesOut self.now text.now (from + 8) carried }
@@ -332,11 +353,11 @@ impl ShiftOr {
             let ahead = at + PLACES;
             let noted = probe_block::<STEP>(entries, text, ahead, before, &mut words, &mut groups);
             let count = note_words(&words, &groups, noted.count, &mut numbers);
-            let mut false_positives = 0;
-            if self.has_end(text, ahead, &words, &numbers, count, &mut false_positives) {
+            let mut missed = 0;
+            if self.has_end(text, ahead, &words, &numbers, count, &mut missed) {
                 break;
             }
-            *left = left.saturating_add(false_positives);
+            *false_positives = false_positives.saturating_add(missed);
             before = noted.after;
             at += GROUP * GROUPS;
             is_open = count != 0;
@@ -384,14 +405,14 @@ impl ShiftOr {
 
     /// As `next_by`, after probes that left no end, by eight positions a turn: the last positions of a text.
     #[inline(never)]
-    fn next_by_eights(
+    fn next_by_eights<const STEP: usize>(
         &self,
         entries: &[u64],
         text: &[u8],
         from: usize,
         rest: Probes,
         probes: &mut Probes,
-        left: &mut usize,
+        false_positives: &mut usize,
     ) -> Option<(usize, usize)>
         requires entries { AreEntriesOf self.now.literals self.now.buckets entries.now }
         requires some { 8 ≤ rest.at }
@@ -408,7 +429,7 @@ impl ShiftOr {
         let last = text.len().saturating_sub(2 * PLACES - 1);
         'eights: while at <= last {
             at += PLACES;
-            let now = probes_by(entries, text, at, self.stride);
+            let now = probes_from::<STEP>(entries, text, at);
             let unruled = !(now.here | carried);
             carried = now.after;
             let left_here = Probes {
@@ -416,7 +437,7 @@ impl ShiftOr {
                 unruled,
                 carried,
             };
-            if let Some(found) = self.end_left(text, left_here, left) {
+            if let Some(found) = self.end_left(text, left_here, false_positives) {
                 *probes = found.probes;
                 return Some((found.end, found.first));
             }
@@ -443,7 +464,7 @@ impl ShiftOr {
 
     /// The first end that probes did not rule out and at which some literal ends, with the first such literal.
     #[inline(always)]
-    fn end_left(&self, text: &[u8], probes: Probes, left: &mut usize) -> Option<Verified>
+    fn end_left(&self, text: &[u8], probes: Probes, false_positives: &mut usize) -> Option<Verified>
         requires eight { 8 ≤ probes.at }
         requires inside { 0 < probes.unruled → probes.at + 7 ≤ length text.now }
         ensures { (start : ℕ) → AreProbes self.now text.now start probes → MatchOption result
@@ -453,25 +474,30 @@ impl ShiftOr {
         if probes.unruled == 0 {
             return None;
         }
-        self.verify(text, probes, left)
+        self.verify(text, probes, false_positives)
     }
 
     /// As `first_verified`, in a call.
     #[inline(never)]
-    fn verify(&self, text: &[u8], probes: Probes, left: &mut usize) -> Option<Verified>
+    fn verify(&self, text: &[u8], probes: Probes, false_positives: &mut usize) -> Option<Verified>
         requires eight { 8 ≤ probes.at }
         requires inside { probes.at + 7 ≤ length text.now }
         ensures { (start : ℕ) → AreProbes self.now text.now start probes → MatchOption result
             (NoEndUpTo self.now.literals text.now start (probes.at + 7))
             (IsVerified self.now text.now start) }
     {
-        self.first_verified(text, probes, left)
+        self.first_verified(text, probes, false_positives)
     }
 
     /// The first of eight ends that probes did not rule out and at which some literal ends, with the first such
     /// literal.
     #[inline(always)]
-    fn first_verified(&self, text: &[u8], probes: Probes, left: &mut usize) -> Option<Verified>
+    fn first_verified(
+        &self,
+        text: &[u8],
+        probes: Probes,
+        false_positives: &mut usize,
+    ) -> Option<Verified>
         requires eight { 8 ≤ probes.at }
         requires inside { probes.at + 7 ≤ length text.now }
         ensures { (start : ℕ) → AreProbes self.now text.now start probes → MatchOption result
@@ -492,7 +518,7 @@ impl ShiftOr {
                     });
                 }
             }
-            *left = left.saturating_add(1);
+            *false_positives = false_positives.saturating_add(1);
             unruled = others;
         }
         None
@@ -507,7 +533,7 @@ impl ShiftOr {
         at: usize,
         ruled: u64x4,
         after: u64,
-        left: &mut usize,
+        false_positives: &mut usize,
     ) -> Option<Verified>
         requires eight { 8 ≤ at }
         requires inside { at + 31 ≤ length text.now }
@@ -527,7 +553,7 @@ impl ShiftOr {
                 unruled: !words[word],
                 carried: words[word + 1],
             };
-            if let Some(found) = self.first_verified(text, probes, left) {
+            if let Some(found) = self.first_verified(text, probes, false_positives) {
                 return Some(found);
             }
             unseen = others;
@@ -544,8 +570,8 @@ impl ShiftOr {
         ensures { result ≡ false → NoneOf self.now text.now bucket end }
     {
         let width = self.confirms.widths[bucket];
-        let key = (last_word(text, end) & last_bits(width)) | self.confirms.case_bits;
-        is_marked(self.confirms.table[hash_of(CONFIRM_BITS, key)], bucket)
+        let key = masked_key(last_word(text, end), width, self.confirms.case_bits);
+        has_bit(self.confirms.table[hash_of(CONFIRM_BITS, key)], bucket)
     }
 
     /// The first end after `from` and up to `last`, with the first literal that ends there, without probes.

@@ -1,38 +1,12 @@
 //! Searches for ends by shift-or over buckets of literals.
-ghost use Rattle.std.specs.Prelude.{◌≡◌, IfSome, MatchOption};
+ghost use Rattle.std.specs.Prelude.{◌≡◌};
 ghost use Rattle.lit_base.specs.Occurrences.{IsFirstEnding};
-ghost use Rattle.lit_base.specs.NextEnds.{IsNextEnd, NoEndAfter};
-ghost use Rattle.shift_search.specs.Probes.{AreProbesAfter};
 
 use crate::probes::Probes;
 use crate::shift_or::ShiftOr;
 use std::alloc::AllocError;
 use std::marker::Model;
 use text_ends::{Ends, Hit, Tally, add_hits_at};
-
-/// The first position of the text after `from` at which some literal ends, wherever it begins, with the first such
-/// literal. `probes` is the state of the search after `from`, and then its state after the end that was found. Counts
-/// false positives in `tally`. It takes no memory.
-#[inline(always)]
-fn next_end_by_probes(
-    shift_or: &ShiftOr,
-    text: &[u8],
-    from: usize,
-    probes: &mut Probes,
-    tally: &mut Tally,
-) -> Option<(usize, usize)>
-    requires { AreProbesAfter shift_or.now text.now from probes.old }
-    ensures next { MatchOption result
-        (NoEndAfter shift_or.now.literals text.now from)
-        (λ found. IsNextEnd shift_or.now.literals text.now from found.0) }
-    ensures first { IfSome result (λ found. IsFirstEnding shift_or.now.literals text.now 0 found.0 found.1) }
-    ensures probes { IfSome result (λ found. AreProbesAfter shift_or.now text.now found.0 probes.new) }
-{
-    let mut left = 0;
-    let found = shift_or.next_by(text, from, probes, &mut left);
-    tally.miss(left);
-    found
-}
 
 /// The ends in a text, found by shift-or.
 #[derive(Drop)]
@@ -86,13 +60,9 @@ impl<'a> Ends for ShiftedEnds<'a> {
     #[inline(always)]
     fn next_end(&mut self) -> Option<(usize, usize)> {
         let mut probes = self.probes;
-        let found = next_end_by_probes(
-            self.shift_or,
-            self.text,
-            self.from,
-            &mut probes,
-            &mut self.tally,
-        );
+        let found = self
+            .shift_or
+            .next_by(self.text, self.from, &mut probes, &mut self.tally);
         if let Some((end, _)) = found {
             self.tally.end();
             self.from = end;

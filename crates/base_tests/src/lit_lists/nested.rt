@@ -18,9 +18,9 @@ const LONG: [&[u8]; 5] = [
     b"aabcdefgha",
 ];
 
-/// The remaining literals, at most `most`.
-fn rest_of(alloc: Global, endings: &mut Endings, most: usize) -> Option<Vec<usize>> {
-    let mut places = Vec::new(alloc);
+/// Some literals, and then the remaining ones, at most `most`.
+fn with_rest(first: Vec<usize>, endings: &mut Endings, most: usize) -> Option<Vec<usize>> {
+    let mut places = first;
     for _ in 0..most {
         let Some(place) = endings.next() else {
             return Some(places);
@@ -41,7 +41,18 @@ fn given(
     if end > text.len() {
         return None;
     }
-    rest_of(alloc, &mut list.endings(text, end, from), list.len())
+    let mut places = Vec::new(alloc);
+    match list.next_ending(text, end, from) {
+        Some(first) => {
+            places.push(first).ok()?;
+            with_rest(
+                places,
+                &mut list.endings_after(text, end, first),
+                list.len(),
+            )
+        }
+        None => Some(places),
+    }
 }
 
 /// Those after the first, if one ends there.
@@ -49,9 +60,14 @@ fn given_after(alloc: Global, list: &ListIndex, text: &[u8], end: usize) -> Opti
     if end > text.len() {
         return None;
     }
+    let places = Vec::new(alloc);
     match list.first_ending(text, end) {
-        Some(first) => rest_of(alloc, &mut list.endings_after(text, end, first), list.len()),
-        None => Some(Vec::new(alloc)),
+        Some(first) => with_rest(
+            places,
+            &mut list.endings_after(text, end, first),
+            list.len(),
+        ),
+        None => Some(places),
     }
 }
 

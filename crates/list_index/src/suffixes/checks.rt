@@ -1,18 +1,16 @@
 //! Checks by the last bytes of keys, for the positions that the hash bits pass.
 ghost use Rattle.std.specs.Prelude.{◌≡◌, ℕ, ◌-◌, ◌^◌, ◌<◌, ◌≤◌, ◌⊎◌, length, min, slice_index, vec_len, IfOk};
 ghost use Rattle.std.specs.Int.{bit_at};
-ghost use Rattle.std.specs.Int.RustNames.{bit_and, bit_or};
 ghost use Rattle.list_index.specs.Chains.{key_width_at};
-ghost use Rattle.list_index.specs.Checks.{AreChecksOf, IsCheckOf, IsChecked};
+ghost use Rattle.list_index.specs.Checks.{AreChecksOf, checked_width};
 ghost use Rattle.lit_base.specs.Literals.{Literals};
-ghost use Rattle.list_index.specs.HashBits.{IsMarked};
 ghost use Rattle.lit_base.specs.Occurrences.{Occurs};
-ghost use Rattle.list_index.specs.Suffixes.{hash_of, last_bits, suffix_key, key_width};
+ghost use Rattle.list_index.specs.Suffixes.{hash_of, masked_key};
 ghost use Rattle.list_index.specs.declared.suffixes.checks.TheConstants.{CHECK_BITS};
 
-use crate::suffixes::hash_bits::{mark, marked_len};
-use crate::suffixes::key::{case_bits, hash_of, key_width, last_bits, last_word, suffix_key};
-use lit_base::{Fold, LitList};
+use crate::suffixes::hash_bits::{marked_len, set_hash_bit};
+use crate::suffixes::key::{case_bits, hash_of, key_width, last_word, masked_key, suffix_key};
+use lit_base::LitList;
 use std::alloc::{AllocError, Global};
 
 /// The number of bits of a hash here. There are twice as many hashes as there may be literals. A byte for each takes 8
@@ -50,7 +48,10 @@ impl SuffixChecks {
         let most = least.max(LEAST_CHECKED);
         let mut widths = Vec::from_elem(alloc, 0, 1 << CHECK_BITS)?;
         for place in 0..list.len() {
-            check_literal(&mut widths, fold, list.get(place), most);
+            let literal = list.get(place);
+            let width = key_width(literal.len());
+            let key = suffix_key(fold, literal, literal.len(), checked_width(width, most));
+            set_hash_bit(&mut widths, CHECK_BITS, key, width - 1);
         }
         Ok(SuffixChecks {
             least,
@@ -90,9 +91,9 @@ impl SuffixChecks {
         requires some { 0 < width }
         requires narrow { width ≤ 8 }
         requires room { length self.now.widths.items ≡ 2 ^ CHECK_BITS }
-        ensures { result ≡ slice_index self.now.widths.items (hash_of CHECK_BITS (bit_or (bit_and word (last_bits width)) self.now.case_bits)) }
+        ensures { result ≡ slice_index self.now.widths.items (hash_of CHECK_BITS (masked_key word width self.now.case_bits)) }
     {
-        self.widths[hash_of(CHECK_BITS, (word & last_bits(width)) | self.case_bits)]
+        self.widths[hash_of(CHECK_BITS, masked_key(word, width, self.case_bits))]
     }
 }
 
@@ -102,24 +103,7 @@ fn checked_width(keyed: usize, most: usize) -> usize
     requires checked { 0 < most }
     ensures some { 0 < result }
     ensures within { result ≤ keyed }
-    ensures short { keyed < 8 → result ≡ min keyed most }
-    ensures long { keyed ≡ 8 → result ≡ min keyed 8 }
+    ensures value { result ≡ checked_width most keyed }
 {
-    if keyed < 8 { keyed.min(most) } else { keyed }
-}
-
-/// Sets the bit of a literal; keys shorter than eight bytes are checked by at most `most`.
-fn check_literal(widths: &mut Vec<u8>, fold: Fold, literal: &[u8], most: usize)
-    requires some { 0 < length literal.now }
-    requires checked { 0 < most }
-    requires room { vec_len widths.old ≡ 2 ^ CHECK_BITS }
-    ensures len { vec_len widths.new ≡ vec_len widths.old }
-    ensures short { key_width (length literal.now) < 8 → IsChecked widths.new.items (key_width (length literal.now)) (suffix_key fold literal.now (length literal.now) (min (key_width (length literal.now)) most)) }
-    ensures long { key_width (length literal.now) ≡ 8 → IsChecked widths.new.items (key_width (length literal.now)) (suffix_key fold literal.now (length literal.now) (min (key_width (length literal.now)) 8)) }
-    ensures kept { (hash back : ℕ) → IsMarked widths.old.items hash back → IsMarked widths.new.items hash back }
-    ensures only { (hash back : ℕ) → IsMarked widths.new.items hash back → (IsMarked widths.old.items hash back) ⊎ IsCheckOf fold literal.now most hash back }
-{
-    let width = key_width(literal.len());
-    let key = suffix_key(fold, literal, literal.len(), checked_width(width, most));
-    mark(widths, hash_of(CHECK_BITS, key), width - 1);
+    if keyed == 8 { keyed } else { keyed.min(most) }
 }

@@ -1,14 +1,14 @@
-//! Hash bits for the bytes shortly before each literal's end.
+//! Tables of bits by the hashes of keys, and the hash bits of literals' last bytes.
 ghost use Rattle.std.specs.Prelude.{◌≡◌, ◌≢◌, ℕ, ◌+◌, ◌^◌, ◌<◌, ◌≤◌, ◌⊎◌, ◌↔◌, length, vec_len, slice_index, slice_range, ◌-◌, IfOk, IsTrue};
 ghost use Rattle.lit_base.specs.Literals.{literal_at};
-ghost use Rattle.list_index.specs.HashBits.{AreHashBitsOf, IsHashBitOf, IsMarked, IsMarkedFor};
-ghost use Rattle.list_index.specs.Suffixes.{hash_of, spelled, suffix_key};
+ghost use Rattle.list_index.specs.HashBits.{AreHashBitsOf, HasBit};
+ghost use Rattle.list_index.specs.Suffixes.{hash_of, spelled};
 ghost use Rattle.std.specs.Int.{bit_at};
 ghost use Rattle.std.specs.Int.RustNames.{bit_and, bit_or};
 ghost use Rattle.list_index.specs.declared.suffixes.hash_bits.TheConstants.{HASH_BITS};
 
-use crate::suffixes::key::{case_bits, hash_of, last_bits, last_word, suffix_key};
-use lit_base::{Fold, LitList};
+use crate::suffixes::key::{case_bits, hash_of, last_word, suffix_key, suffix_mask};
+use lit_base::LitList;
 use std::alloc::{AllocError, Global};
 
 /// The number of bits of a hash here: 16 times as many hashes as there may be literals, so that few other bytes have a
@@ -35,28 +35,16 @@ impl HashBits {
         let fold = list.fold();
         let mut hash_bits = Vec::from_elem(alloc, 0, 1 << HASH_BITS)?;
         for place in 0..list.len() {
-            mark_literal(&mut hash_bits, fold, list.get(place), width, 0);
+            let literal = list.get(place);
+            let key = suffix_key(fold, literal, literal.len(), width);
+            set_hash_bit(&mut hash_bits, HASH_BITS, key, 0);
         }
         Ok(HashBits {
             width,
-            mask: last_bits(width),
+            mask: suffix_mask(width),
             case_bits: case_bits(fold),
             bytes: hash_bits,
         })
-    }
-
-    /// The hash bits of the bytes before `end`, at least eight.
-    #[inline(always)]
-    fn hash_bits_before(&self, text: &[u8], end: usize) -> u8
-        requires room { length self.now.bytes.items ≡ 2 ^ HASH_BITS }
-        requires eight { 8 ≤ end }
-        requires inside { end ≤ length text.now }
-        ensures { result ≡ slice_index self.now.bytes.items (hash_of HASH_BITS (bit_or (bit_and (spelled (slice_range text.now (end - 8) end)) self.now.mask) self.now.case_bits)) }
-    {
-        self.bytes[hash_of(
-            HASH_BITS,
-            (last_word(text, end) & self.mask) | self.case_bits,
-        )]
     }
 
     /// Whether the hash of the bytes before `end` has no bit for an end. With fewer than eight bytes before `end` it
@@ -65,9 +53,13 @@ impl HashBits {
     pub fn rules_out(&self, text: &[u8], end: usize) -> bool
         requires room { length self.now.bytes.items ≡ 2 ^ HASH_BITS }
         requires inside { end ≤ length text.now }
-        ensures { IsTrue result ↔ ((8 ≤ end) × ¬ IsMarked self.now.bytes.items (hash_of HASH_BITS (bit_or (bit_and (spelled (slice_range text.now (end - 8) end)) self.now.mask) self.now.case_bits)) 0) }
+        ensures { IsTrue result ↔ ((8 ≤ end) × ¬ HasBit self.now.bytes.items (hash_of HASH_BITS (bit_or (bit_and (spelled (slice_range text.now (end - 8) end)) self.now.mask) self.now.case_bits)) 0) }
     {
-        end >= 8 && !is_marked(self.hash_bits_before(text, end), 0)
+        if end < 8 {
+            return false;
+        }
+        let key = (last_word(text, end) & self.mask) | self.case_bits;
+        !has_bit(self.bytes[hash_of(HASH_BITS, key)], 0)
     }
 }
 
@@ -84,47 +76,25 @@ pub(crate) fn marked_len(list: &LitList) -> usize
     list.shortest().min(8)
 }
 
-/// Sets the hash bit of a literal by the `width` bytes that stand `offset` before its end.
-pub fn mark_literal(
-    hash_bits: &mut Vec<u8>,
-    fold: Fold,
-    literal: &[u8],
-    width: usize,
-    offset: usize,
-)
-    requires some { 0 < width }
-    requires narrow { width ≤ 8 }
-    requires near { offset < 8 }
-    requires long { width + offset ≤ length literal.now }
-    requires room { vec_len hash_bits.old ≡ 2 ^ HASH_BITS }
-    ensures len { vec_len hash_bits.new ≡ vec_len hash_bits.old }
-    ensures marked { IsMarkedFor hash_bits.new.items fold literal.now width offset }
-    ensures kept { (number back : ℕ) → IsMarked hash_bits.old.items number back → IsMarked hash_bits.new.items number back }
-    ensures only { (number back : ℕ) → IsMarked hash_bits.new.items number back
-        → (IsMarked hash_bits.old.items number back) ⊎ IsHashBitOf fold literal.now width offset number back }
+/// Sets a bit in the byte at the hash of a key. A hash has this many bits.
+pub fn set_hash_bit(table: &mut Vec<u8>, bits: usize, key: u64, bit: usize)
+    requires hashed { (0 < bits) × (bits ≤ 32) }
+    requires bit { bit < 8 }
+    requires room { vec_len table.old ≡ 2 ^ bits }
+    ensures len { vec_len table.new ≡ vec_len table.old }
+    ensures set { HasBit table.new.items (hash_of bits key) bit }
+    ensures kept { (number other : ℕ) → HasBit table.old.items number other → HasBit table.new.items number other }
+    ensures only { (number other : ℕ) → HasBit table.new.items number other
+        → (HasBit table.old.items number other) ⊎ ((number ≡ hash_of bits key) × (other ≡ bit)) }
 {
-    let key = suffix_key(fold, literal, literal.len() - offset, width);
-    mark(hash_bits, hash_of(HASH_BITS, key), offset);
+    table[hash_of(bits, key)] |= 1 << bit;
 }
 
-/// Sets bit `back` in the byte of a number: a literal may end `back` positions later.
-pub fn mark(hash_bits: &mut Vec<u8>, number: usize, back: usize)
-    requires room { number < vec_len hash_bits.old }
-    requires bit { back < 8 }
-    ensures len { vec_len hash_bits.new ≡ vec_len hash_bits.old }
-    ensures marked { IsMarked hash_bits.new.items number back }
-    ensures kept { (other place : ℕ) → IsMarked hash_bits.old.items other place → IsMarked hash_bits.new.items other place }
-    ensures only { (other place : ℕ) → IsMarked hash_bits.new.items other place
-        → (IsMarked hash_bits.old.items other place) ⊎ ((other ≡ number) × (place ≡ back)) }
-{
-    hash_bits[number] |= 1 << back;
-}
-
-/// Whether a byte of hash bits has bit `back`.
+/// Whether a byte has a bit.
 #[inline(always)]
-pub fn is_marked(hash_bits: u8, back: usize) -> bool
-    requires { back < 8 }
-    ensures { IsTrue result ↔ (bit_at hash_bits back ≡ 1) }
+pub fn has_bit(byte: u8, bit: usize) -> bool
+    requires { bit < 8 }
+    ensures { IsTrue result ↔ (bit_at byte bit ≡ 1) }
 {
-    hash_bits >> back & 1 == 1
+    byte >> bit & 1 == 1
 }

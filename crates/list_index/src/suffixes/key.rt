@@ -1,6 +1,6 @@
 //! Keys of the last bytes of a text, and their hashes.
 ghost use Rattle.std.specs.Prelude.{◌≡◌, ◌+◌, ◌-◌, ◌^◌, ◌<◌, ◌≤◌, ◌++◌, length, replicate, slice_range};
-ghost use Rattle.list_index.specs.Suffixes.{case_bits, hash_of, last_bits, spelled, suffix_key, key_width};
+ghost use Rattle.list_index.specs.Suffixes.{case_bits, hash_of, key_width, masked_key, spelled, suffix_key, suffix_mask};
 
 use lit_base::Fold;
 
@@ -21,20 +21,28 @@ pub fn suffix_key(fold: Fold, text: &[u8], end: usize, width: usize) -> u64
     requires inside { end ≤ length text.now }
     ensures { result ≡ suffix_key fold text.now end width }
 {
-    let word = if end < 8 {
-        padded_word(&text[end - width..end])
-    } else {
-        last_word(text, end) & last_bits(width)
-    };
-    word | case_bits(fold)
+    if end < 8 {
+        return padded_word(&text[end - width..end]) | case_bits(fold);
+    }
+    masked_key(last_word(text, end), width, case_bits(fold))
+}
+
+/// The key of the last `width` of the eight bytes that a word spells.
+#[inline(always)]
+pub fn masked_key(word: u64, width: usize, case_bits: u64) -> u64
+    requires some { 0 < width }
+    requires narrow { width ≤ 8 }
+    ensures { result ≡ masked_key word width case_bits }
+{
+    (word & suffix_mask(width)) | case_bits
 }
 
 /// The bits of the last `width` bytes of eight.
 #[inline]
-pub fn last_bits(width: usize) -> u64
+pub(crate) fn suffix_mask(width: usize) -> u64
     requires some { 0 < width }
     requires narrow { width ≤ 8 }
-    ensures { result ≡ last_bits width }
+    ensures { result ≡ suffix_mask width }
 {
     u64::MAX << (8 * (8 - width))
 }

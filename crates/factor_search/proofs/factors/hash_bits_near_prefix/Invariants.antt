@@ -1,6 +1,6 @@
 use Rattle.std.proofs.Common.{◌≡◌, ℕ, ◌<◌, ◌≤◌}
 use Rattle.std.specs.Int.{bit_at}
-use Rattle.list_index.specs.HashBits.{IsMarked}
+use Rattle.list_index.specs.HashBits.{HasBit}
 use Rattle.list_index.specs.Suffixes.{hash_of, suffix_key}
 use Rattle.list_index.specs.declared.suffixes.hash_bits.TheConstants.{HASH_BITS}
 use Rattle.factor_search.proofs.factors.hash_bits_near_prefix.Given as goal
@@ -9,5 +9,5 @@ use Rattle.factor_search.proofs.factors.hash_bits_near_prefix.Given as goal
 abbrev pub invariant-loop-width : goal.invariant-loop-width
 invariant-loop-width l = record {
   some : 0 < l.width;
-  found : (width back : ℕ) → l.least ≤ width → width < l.width → IsMarked l.hash_bits.items (hash_of HASH_BITS (suffix_key l.fold l.text l.at width)) back → bit_at l.found back ≡ 1;
+  found : (width back : ℕ) → l.least ≤ width → width < l.width → HasBit l.hash_bits.items (hash_of HASH_BITS (suffix_key l.fold l.text l.at width)) back → bit_at l.found back ≡ 1;
 }

@@ -1,10 +1,6 @@
 -- The probe has the hash bits of the bytes before the position.
-use Rattle.std.proofs.Common.{sym, ap, ◌∙◌, subst}
+use Rattle.std.proofs.Common.{ap, ◌∙◌, subst}
 use Rattle.lit_base.specs.Literals.{Literals}
-use Rattle.list_index.specs.HashBits.{IsMarked}
-use Rattle.list_index.specs.Suffixes.{hash_of, suffix_key}
-use Rattle.lit_base.specs.declared.fold.Fold.{Fold}
-use Rattle.list_index.specs.declared.suffixes.hash_bits.TheConstants.{HASH_BITS}
 use Rattle.list_index.proofs.SuffixLemmas.{are_bytes}
 use Rattle.factor_search.specs.Factors.{AreHashBits, Factored}
 use Rattle.factor_search.proofs.FactorLemmas.{hash_bits_are}
@@ -13,8 +9,6 @@ use Rattle.factor_search.proofs.factors.Factors.hash_bits_at.Goals as goal
 pub returns-then-at-lt-WIDTH : goal.returns-then-at-lt-WIDTH
 returns-then-at-lt-WIDTH c =
     let w : Factored = record { literals = c.self.inside.index.value; offsets = c.self.inside.offsets.items } in
-    let hash_bits = c.self.inside.hash_bits.items in
     subst (λ (v : Factored). AreHashBits v c.args.text.now c.args.at c.hash_bits_near_prefix.result) c.self.view_is
-    (hash_bits_are w c.self.inside.least hash_bits c.args.text.now c.args.at c.hash_bits_near_prefix.result c.self.invariant.0 c.self.invariant.1 (are_bytes c.args.text.now c.type_inv.text)
-    (λ width back enough most begins marked. c.hash_bits_near_prefix.ensures width back enough begins
-    (subst (λ (f : Fold). IsMarked hash_bits (hash_of HASH_BITS (suffix_key f c.args.text.now c.args.at width)) back) (sym (c.fold.ensures ∙ ap (λ (l : Literals). l.folding) c.deref.ensures)) marked)))
+    (hash_bits_are w c.fold.result c.self.inside.least c.self.inside.hash_bits.items c.args.text.now c.args.at c.hash_bits_near_prefix.result (c.fold.ensures ∙ ap (λ (l : Literals). l.folding) c.deref.ensures) c.self.invariant.0 c.self.invariant.1 (are_bytes c.args.text.now c.type_inv.text)
+    (λ width back enough most begins. c.hash_bits_near_prefix.ensures width back enough begins))

@@ -6,7 +6,7 @@ use Rattle.shift_search.proofs.shift_or.ShiftOr.next_by_eights.Given as goal
 
 -- nothing ends up to the last of the eight positions, and `carried` rules out ends after it
 abbrev pub invariant-eights : goal.invariant-eights
-invariant-eights l = record {
+invariant-eights g l = record {
   some : 8 ≤ l.at;
   near : max l.from FIRST ≤ l.at + 7;
   within : l.at + 7 ≤ max (max l.from FIRST) (length l.text);
@@ -16,4 +16,4 @@ invariant-eights l = record {
 }
 
 abbrev pub decreases-eights : goal.decreases-eights
-decreases-eights l = length l.text - l.at
+decreases-eights g l = length l.text - l.at
