@@ -54,40 +54,17 @@ pub(crate) fn probes_from<const STEP: usize>(entries: &[u64], text: &[u8], at: u
     requires inside { at + 7 ≤ length text.now }
     ensures { (b : Bucketing) → AreEntriesOf b.literals b.buckets entries.now → IsRuled b text.now at result }
 {
-    if STEP == 1 {
-        each_probe(entries, text, at)
-    } else {
-        every_second_probe(entries, text, at)
-    }
-}
-
-/// As `probes_from`, at every second position.
-#[inline(always)]
-fn every_second_probe(entries: &[u64], text: &[u8], at: usize) -> Ruled
-    requires all { length entries.now ≡ ENTRIES }
-    requires two { 2 ≤ at }
-    requires inside { at + 6 ≤ length text.now }
-    ensures { (b : Bucketing) → AreEntriesOf b.literals b.buckets entries.now → IsRuled b text.now at result }
-{
     let first = Ruled::by(entry_at(entries, text, at));
     let second = first.and_by(entry_at(entries, text, at + 2), 2);
     let third = second.and_by(entry_at(entries, text, at + 4), 4);
-    third.and_by(entry_at(entries, text, at + 6), 6)
-}
-
-/// As `probes_from`, at each position.
-#[inline(always)]
-fn each_probe(entries: &[u64], text: &[u8], at: usize) -> Ruled
-    requires all { length entries.now ≡ ENTRIES }
-    requires two { 2 ≤ at }
-    requires inside { at + 7 ≤ length text.now }
-    ensures { (b : Bucketing) → AreEntriesOf b.literals b.buckets entries.now → IsRuled b text.now at result }
-{
-    let others = every_second_probe(entries, text, at);
-    let first = others.and_by(entry_at(entries, text, at + 1), 1);
-    let second = first.and_by(entry_at(entries, text, at + 3), 3);
-    let third = second.and_by(entry_at(entries, text, at + 5), 5);
-    third.and_by(entry_at(entries, text, at + 7), 7)
+    let even = third.and_by(entry_at(entries, text, at + 6), 6);
+    if STEP != 1 {
+        return even;
+    }
+    let fifth = even.and_by(entry_at(entries, text, at + 1), 1);
+    let sixth = fifth.and_by(entry_at(entries, text, at + 3), 3);
+    let seventh = sixth.and_by(entry_at(entries, text, at + 5), 5);
+    seventh.and_by(entry_at(entries, text, at + 7), 7)
 }
 
 /// As `probes_from`, at the 32 positions from `at` on.
@@ -98,38 +75,15 @@ pub(crate) fn four_probes<const STEP: usize>(entries: &[u64], text: &[u8], at: u
     requires inside { at + 31 ≤ length text.now }
     ensures { (b : Bucketing) → AreEntriesOf b.literals b.buckets entries.now → AreRuled b text.now at result }
 {
-    if STEP == 1 {
-        four_each_probes(entries, text, at)
-    } else {
-        four_second_probes(entries, text, at)
-    }
-}
-
-/// As `four_probes`, at every second position.
-#[inline(always)]
-fn four_second_probes(entries: &[u64], text: &[u8], at: usize) -> FourRuled
-    requires all { length entries.now ≡ ENTRIES }
-    requires two { 2 ≤ at }
-    requires inside { at + 30 ≤ length text.now }
-    ensures { (b : Bucketing) → AreEntriesOf b.literals b.buckets entries.now → AreRuled b text.now at result }
-{
     let first = FourRuled::by(four_entries_at(entries, text, at));
     let second = first.and_by(four_entries_at(entries, text, at + 2), 2);
     let third = second.and_by(four_entries_at(entries, text, at + 4), 4);
-    third.and_by(four_entries_at(entries, text, at + 6), 6)
-}
-
-/// As `four_probes`, at each position.
-#[inline(always)]
-fn four_each_probes(entries: &[u64], text: &[u8], at: usize) -> FourRuled
-    requires all { length entries.now ≡ ENTRIES }
-    requires two { 2 ≤ at }
-    requires inside { at + 31 ≤ length text.now }
-    ensures { (b : Bucketing) → AreEntriesOf b.literals b.buckets entries.now → AreRuled b text.now at result }
-{
-    let others = four_second_probes(entries, text, at);
-    let first = others.and_by(four_entries_at(entries, text, at + 1), 1);
-    let second = first.and_by(four_entries_at(entries, text, at + 3), 3);
-    let third = second.and_by(four_entries_at(entries, text, at + 5), 5);
-    third.and_by(four_entries_at(entries, text, at + 7), 7)
+    let even = third.and_by(four_entries_at(entries, text, at + 6), 6);
+    if STEP != 1 {
+        return even;
+    }
+    let fifth = even.and_by(four_entries_at(entries, text, at + 1), 1);
+    let sixth = fifth.and_by(four_entries_at(entries, text, at + 3), 3);
+    let seventh = sixth.and_by(four_entries_at(entries, text, at + 5), 5);
+    seventh.and_by(four_entries_at(entries, text, at + 7), 7)
 }
