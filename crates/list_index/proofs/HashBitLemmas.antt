@@ -1,5 +1,5 @@
 -- Tables of bits by the hashes of keys: one more bit, and that a table has the bit of each literal that ends in a text.
-use Rattle.std.proofs.Common.{◌≡◌, ℕ, ◌+◌, ◌-◌, refl, ◌*◌, ◌%◌, ◌^◌, ◌<◌, ◌≤◌, List, length, get_or, replicate, set, ◌⊎◌, inl, inr, sym, ap, ◌∙◌, subst, arith, below_more, get_or-set_same, get_or-set_other}
+use Rattle.std.proofs.Common.{◌≡◌, ℕ, ◌+◌, ◌-◌, refl, ◌*◌, ◌%◌, ◌^◌, ◌<◌, ◌≤◌, List, length, get_or, replicate, set, inl, inr, sym, ap, ◌∙◌, subst, arith, below_more, get_or-set_same, get_or-set_other}
 use Rattle.std.specs.Int.{bit_at, w8}
 use Rattle.std.specs.Int.RustNames.{bit_and, bit_or}
 use Rattle.std.specs.List.{slice_range}
@@ -10,47 +10,49 @@ use Rattle.std.proofs.lemmas.Option.{slice_get_within}
 use Rattle.list_index.specs.declared.suffixes.hash_bits.HashBits.{HashBits}
 use Rattle.list_index.specs.declared.suffixes.hash_bits.TheConstants.{HASH_BITS}
 use Rattle.lit_base.specs.Literals.{Literals}
-use Rattle.list_index.specs.HashBits.{AreHashBitsOf, AreKeyBits, HasBit}
+use Rattle.list_index.specs.HashBits.{AreHashBitsOf, AreKeyBits, HasBit, IsSet}
 use Rattle.lit_base.specs.Occurrences.{Occurs}
 use Rattle.list_index.specs.Suffixes.{hash_of, spelled}
 use Rattle.list_index.proofs.SuffixLemmas.{AreBytes, word-occurs}
 
+-- a bit of a number of a table is set
 module _ (table : List ℕ) (number byte bit : ℕ) (room : number < length table) (read : byte ≡ get_or table number 0) (small : bit < 8) where
   abbrev with_bit : ℕ
   with_bit = bit_or byte (1 * 2 ^ bit % 256)
 
-  -- the number has the bit
-  pub bit_now : HasBit (set table number with_bit) number bit
+  -- it has the bit
+  bit_now : HasBit (set table number with_bit) number bit
   bit_now = ap (λ w. bit_at w bit) (get_or-set_same table number with_bit 0 room) ∙ bit_at_set_same w8 byte bit small
 
-  -- and earlier bits stay
-  pub bit_still : (other place : ℕ) → HasBit table other place → HasBit (set table number with_bit) other place
-  bit_still other place old = elim (cases_eq other number) [
+  -- and each other bit is as before
+  other_bit : (other place : ℕ) → ((other ≡ number) × (place ≡ bit) → ⊥) → bit_at (get_or (set table number with_bit) other 0) place ≡ bit_at (get_or table other 0) place
+  other_bit other place apart = elim (cases_eq other number) [
+    | inr elsewhere ↦ ap (λ w. bit_at w place) (get_or-set_other table number other with_bit 0 elsewhere)
     | inl here ↦
-        let same : bit_at byte place ≡ 1 = ap (λ w. bit_at w place) (read ∙ ap (λ k. get_or table k 0) (sym here)) ∙ old in
         ap (λ k. bit_at (get_or (set table number with_bit) k 0) place) here
         ∙ ap (λ w. bit_at w place) (get_or-set_same table number with_bit 0 room)
-        ∙ elim (cases_eq place bit) [
-          | inl there ↦ ap (λ k. bit_at with_bit k) there ∙ bit_at_set_same w8 byte bit small
-          | inr apart ↦ bit_at_set_other w8 byte bit small place apart ∙ same
-        ]
-    | inr apart ↦ ap (λ w. bit_at w place) (get_or-set_other table number other with_bit 0 apart) ∙ old
+        ∙ bit_at_set_other w8 byte bit small place (λ there. apart (here, there))
+        ∙ ap (λ w. bit_at w place) (read ∙ ap (λ k. get_or table k 0) (sym here))
   ]
 
-  -- and no other bit is set
-  pub bit_before : (other place : ℕ) → HasBit (set table number with_bit) other place → (HasBit table other place) ⊎ ((other ≡ number) × (place ≡ bit))
-  bit_before other place now = elim (cases_eq other number) [
-    | inr apart ↦ inl (ap (λ w. bit_at w place) (sym (get_or-set_other table number other with_bit 0 apart)) ∙ now)
-    | inl here ↦ elim (cases_eq place bit) [
-      | inl there ↦ inr (here, there)
-      | inr apart ↦ inl (
-          ap (λ w. bit_at w place) (ap (λ k. get_or table k 0) here ∙ sym read)
-          ∙ sym (bit_at_set_other w8 byte bit small place apart)
-          ∙ ap (λ w. bit_at w place) (sym (get_or-set_same table number with_bit 0 room))
-          ∙ ap (λ k. bit_at (get_or (set table number with_bit) k 0) place) (sym here)
-          ∙ now)
-    ]
-  ]
+  pub bit_is_set : IsSet table (set table number with_bit) number bit
+  bit_is_set = record {
+    set = bit_now;
+    kept = λ other place old. elim (cases_eq other number) [
+      | inr apart ↦ other_bit other place (λ both. apart both.0) ∙ old
+      | inl here ↦ elim (cases_eq place bit) [
+        | inr apart ↦ other_bit other place (λ both. apart both.1) ∙ old
+        | inl there ↦ subst (λ k. HasBit (set table number with_bit) k place) (sym here) (subst (HasBit (set table number with_bit) number) (sym there) bit_now)
+      ]
+    ];
+    only = λ other place now. elim (cases_eq other number) [
+      | inr apart ↦ inl (sym (other_bit other place (λ both. apart both.0)) ∙ now)
+      | inl here ↦ elim (cases_eq place bit) [
+        | inr apart ↦ inl (sym (other_bit other place (λ both. apart both.1)) ∙ now)
+        | inl there ↦ inr (here, there)
+      ]
+    ];
+  }
 
 -- a bit of either of two numbers is one of both together
 pub bit_of_left : (a b i : ℕ) → bit_at a i ≡ 1 → bit_at (bit_or a b) i ≡ 1
@@ -72,17 +74,15 @@ no_key_bits bits key_of bit_of table zeros = record {
       absurd (omega (arith, ap (λ b. bit_at b bit) byte, bit_at-zero bit, now));
 }
 
--- with the bit of the next place, and no other new bit, it has those of one place more
-pub more_key_bits : (bits : ℕ) (key_of bit_of : ℕ → ℕ) (count key bit : ℕ) (old new : List ℕ) → AreKeyBits bits key_of bit_of count old → key ≡ key_of count → bit ≡ bit_of count → length new ≡ length old → HasBit new (hash_of bits key) bit
-    → ((number other : ℕ) → HasBit old number other → HasBit new number other)
-    → ((number other : ℕ) → HasBit new number other → (HasBit old number other) ⊎ ((number ≡ hash_of bits key) × (other ≡ bit)))
+-- with the bit of the next place it has those of one place more
+pub more_key_bits : (bits : ℕ) (key_of bit_of : ℕ → ℕ) (count key bit : ℕ) (old new : List ℕ) → AreKeyBits bits key_of bit_of count old → key ≡ key_of count → bit ≡ bit_of count → length new ≡ length old → IsSet old new (hash_of bits key) bit
     → AreKeyBits bits key_of bit_of (count + 1) new
-more_key_bits bits key_of bit_of count key bit old new are key_is bit_is len set kept only = record {
+more_key_bits bits key_of bit_of count key bit old new are key_is bit_is len more = record {
   room = len ∙ are.room;
   has = below_more _ _
-      (λ place low. kept _ _ (are.has place low))
-      (subst (λ k. HasBit new (hash_of bits k) (bit_of count)) key_is (subst (HasBit new (hash_of bits key)) bit_is set));
-  only = λ number other now. elim (only number other now) [
+      (λ place low. more.kept _ _ (are.has place low))
+      (subst (λ k. HasBit new (hash_of bits k) (bit_of count)) key_is (subst (HasBit new (hash_of bits key)) bit_is more.set));
+  only = λ number other now. elim (more.only number other now) [
     | inl before ↦ let is = are.only number other before in record { place = is.place; within = omega (arith, is.within); hash = is.hash; is = is.is }
     | inr next ↦ record { place = count; within = omega arith; hash = next.0 ∙ ap (hash_of bits) key_is; is = next.1 ∙ bit_is }
   ];

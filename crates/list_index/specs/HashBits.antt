@@ -1,5 +1,5 @@
 -- Tables of bits by the hashes of keys, and the hash bits of literals' last bytes, which rule out positions where no literal ends.
-use Rattle.std.specs.Prelude.{◌≡◌, ℕ, ◌^◌, ◌<◌, ◌≤◌, List, length, slice_index}
+use Rattle.std.specs.Prelude.{◌≡◌, ℕ, ◌^◌, ◌<◌, ◌≤◌, ◌⊎◌, List, length, slice_index}
 use Rattle.std.specs.Int.{bit_at}
 use Rattle.list_index.specs.declared.suffixes.hash_bits.HashBits.{HashBits}
 use Rattle.lit_base.specs.Literals.{Literals, literal_at}
@@ -9,6 +9,12 @@ use Rattle.list_index.specs.declared.suffixes.hash_bits.TheConstants.{HASH_BITS}
 -- the byte of a number has a bit
 abbrev pub HasBit : List ℕ → ℕ → ℕ → Type 0
 HasBit table number bit = bit_at (slice_index table number) bit ≡ 1
+
+-- one bit of a table is set, and no other is changed
+pub record IsSet (old new : List ℕ) (number bit : ℕ) : Type 0 where
+  pub set : HasBit new number bit
+  pub kept : (other place : ℕ) → HasBit old other place → HasBit new other place
+  pub only : (other place : ℕ) → HasBit new other place → (HasBit old other place) ⊎ ((other ≡ number) × (place ≡ bit))
 
 -- the number is the hash of the key of one of the first places, and the bit is the bit of that place
 pub record IsKeyBit (bits : ℕ) (key_of bit_of : ℕ → ℕ) (count number bit : ℕ) : Type 0 where

@@ -1,7 +1,7 @@
 //! Tables of bits by the hashes of keys, and the hash bits of literals' last bytes.
 ghost use Rattle.std.specs.Prelude.{◌≡◌, ◌≢◌, ℕ, ◌+◌, ◌^◌, ◌<◌, ◌≤◌, ◌⊎◌, ◌↔◌, length, vec_len, slice_index, slice_range, ◌-◌, IfOk, IsTrue};
 ghost use Rattle.lit_base.specs.Literals.{literal_at};
-ghost use Rattle.list_index.specs.HashBits.{AreHashBitsOf, HasBit};
+ghost use Rattle.list_index.specs.HashBits.{AreHashBitsOf, HasBit, IsSet};
 ghost use Rattle.list_index.specs.Suffixes.{hash_of, spelled};
 ghost use Rattle.std.specs.Int.{bit_at};
 ghost use Rattle.std.specs.Int.RustNames.{bit_and, bit_or};
@@ -82,10 +82,7 @@ pub fn set_hash_bit(table: &mut Vec<u8>, bits: usize, key: u64, bit: usize)
     requires bit { bit < 8 }
     requires room { vec_len table.old ≡ 2 ^ bits }
     ensures len { vec_len table.new ≡ vec_len table.old }
-    ensures set { HasBit table.new.items (hash_of bits key) bit }
-    ensures kept { (number other : ℕ) → HasBit table.old.items number other → HasBit table.new.items number other }
-    ensures only { (number other : ℕ) → HasBit table.new.items number other
-        → (HasBit table.old.items number other) ⊎ ((number ≡ hash_of bits key) × (other ≡ bit)) }
+    ensures set { IsSet table.old.items table.new.items (hash_of bits key) bit }
 {
     table[hash_of(bits, key)] |= 1 << bit;
 }

@@ -24,7 +24,6 @@ returns c =
     λ other sooner. sym (get_or-set_other before place other offset 0 (λ same. omega (arith, same, sooner))) in
     let key : c.suffix_key-key.result ≡ factor_key l place (slice_index after place) =
     c.suffix_key-key.ensures ∙ (λ i. suffix_key (c.fold.ensures i) (here i) (length (here i) - new i) (c.width_of-width.ensures.value i)) in
-    let bit = c.set_hash_bit.ensures in
     record {
       offsets_len = omega (arith, length-set before place offset, was.offsets_len);
       factors = below_more _ _
@@ -39,5 +38,5 @@ returns c =
                 let same = stays is.place is.within in
                 record { place = is.place; within = is.within; hash = is.hash ∙ ap (λ o. hash_of HASH_BITS (factor_key l is.place o)) same; is = is.is ∙ same };
           })
-          key new (omega (arith, bit.len)) bit.set bit.kept bit.only;
+          key new (omega (arith, c.set_hash_bit.ensures.len)) c.set_hash_bit.ensures.set;
     }

@@ -21,8 +21,7 @@ loop-place-preserved c =
     let width : c.index.result.now ≡ slice_index widths (bucket_at buckets place) =
     get_or_read widths c.bucket_of-bucket.result c.index.result.now (omega (arith, its, c.requires.widths.eight)) c.index.ensures 0 ∙ ap (slice_index widths) its in
     let key : c.suffix_key-key.result ≡ bucket_key l buckets widths place = c.suffix_key-key.ensures ∙ (λ i. suffix_key (c.fold.ensures i) (here i) (length (here i)) (width i)) in
-    let bit = c.set_hash_bit.ensures in
-    more_key_bits CONFIRM_BITS (bucket_key l buckets widths) (bucket_at buckets) place c.suffix_key-key.result c.bucket_of-bucket.result c.loop-place.table.items c.set_hash_bit.new.table.items c.loop-place.invariant key its (omega (arith, bit.len)) bit.set bit.kept bit.only
+    more_key_bits CONFIRM_BITS (bucket_key l buckets widths) (bucket_at buckets) place c.suffix_key-key.result c.bucket_of-bucket.result c.loop-place.table.items c.set_hash_bit.new.table.items c.loop-place.invariant key its (omega (arith, c.set_hash_bit.ensures.len)) c.set_hash_bit.ensures.set
 
 pub returns : goal.returns
 returns c =

@@ -23,8 +23,7 @@ loop-place-preserved c =
     let width : c.key_width-width.result ≡ key_width_at l place = c.key_width-width.ensures ∙ ap (λ t. key_width (length t)) here in
     let checked : c.checked_width.result ≡ checked_width most (key_width_at l place) = c.checked_width.ensures.value ∙ ap (checked_width most) width in
     let key : c.suffix_key-key.result ≡ checked_key l most place = c.suffix_key-key.ensures ∙ (λ i. suffix_key (c.fold-fold.ensures i) (here i) (length (here i)) (checked i)) in
-    let set = c.set_hash_bit.ensures in
-    more_key_bits CHECK_BITS (checked_key l most) (width_bit l) place c.suffix_key-key.result (c.key_width-width.result - 1) c.loop-place.widths.items c.set_hash_bit.new.table.items c.loop-place.invariant key (ap (λ w. w - 1) width) (omega (arith, set.len)) set.set set.kept set.only
+    more_key_bits CHECK_BITS (checked_key l most) (width_bit l) place c.suffix_key-key.result (c.key_width-width.result - 1) c.loop-place.widths.items c.set_hash_bit.new.table.items c.loop-place.invariant key (ap (λ w. w - 1) width) (omega (arith, c.set_hash_bit.ensures.len)) c.set_hash_bit.ensures.set
 
 pub returns : goal.returns
 returns c =

@@ -25,8 +25,7 @@ loop-place-preserved c =
     let inside : place < length l.texts = omega (arith, c.loop-place-test.true) in
     let here : c.get-literal.result.now ≡ literal_at l place = get_or_read l.texts place c.get-literal.result.now inside c.get-literal.ensures.value [] in
     let key : c.suffix_key-key.result ≡ last_key l width place = c.suffix_key-key.ensures ∙ (λ i. suffix_key (c.fold-fold.ensures i) (here i) (length (here i)) width) in
-    let set = c.set_hash_bit.ensures in
-    more_key_bits HASH_BITS (last_key l width) (λ _. 0) place c.suffix_key-key.result 0 c.loop-place.hash_bits.items c.set_hash_bit.new.table.items c.loop-place.invariant key refl (omega (arith, set.len)) set.set set.kept set.only
+    more_key_bits HASH_BITS (last_key l width) (λ _. 0) place c.suffix_key-key.result 0 c.loop-place.hash_bits.items c.set_hash_bit.new.table.items c.loop-place.invariant key refl (omega (arith, c.set_hash_bit.ensures.len)) c.set_hash_bit.ensures.set
 
 pub returns : goal.returns
 returns c =
