@@ -103,9 +103,8 @@ impl ListIndex {
         self.list.shortest()
     }
 
-    /// The length of the longest literal, which is the last.
+    /// The length of the longest literal, which is the last, or 0 if there is none.
     pub fn longest(&self) -> usize
-        requires { 0 < length self.now.texts }
         ensures last { result ≡ slice_index (lengths self.now) (length self.now.texts - 1) }
         ensures greatest { All (λ len. len ≤ result) (lengths self.now) }
     {

@@ -1,8 +1,8 @@
 -- The buckets of an assignment, literal by literal, and the sum of their costs, bucket by bucket.
-use Rattle.std.proofs.Common.{◌≡◌, ◌≢◌, ℕ, zero, suc, ◌+◌, ◌-◌, ◌<◌, ◌≤◌, min, List, [], ◌∷◌, length, get_or, drop, refl, sym, ap, ◌∙◌, subst, arith}
+use Rattle.std.proofs.Common.{◌≡◌, ◌≢◌, ℕ, zero, suc, ◌+◌, ◌-◌, ◌<◌, ◌≤◌, min, List, ◌∷◌, length, get_or, drop, refl, sym, ap, ◌∙◌, subst, arith}
 use Rattle.std.specs.List.{fold, sum_by, range_with_len}
 use Rattle.std.proofs.lemmas.Bool.{eq-eqb, ne_eqb}
-use Rattle.std.proofs.lemmas.List.{drop_more, drop_all}
+use Rattle.std.proofs.lemmas.List.{drop_more}
 use Rattle.std.proofs.lemmas.List.Sums.{sum_by-cons}
 use Rattle.lit_base.specs.Costs.{cost, group_cost}
 use Rattle.lit_base.specs.Assignments.{bucket}
@@ -21,10 +21,6 @@ bucket_own b ls ns i hl hn own =
 pub bucket_other : (b : ℕ) (ls ns : List ℕ) (i : ℕ) → i < length ls → i < length ns → get_or ns i 0 ≢ b → bucket b (drop i ls) (drop i ns) ≡ bucket b (drop (i + 1) ls) (drop (i + 1) ns)
 bucket_other b ls ns i hl hn other =
     rw (drop_more ls i 0 hl, drop_more ns i 0 hn, ne_eqb (get_or ns i 0) b other)
-
--- past the last place a bucket holds nothing more
-pub bucket_all : (b : ℕ) (ls ns : List ℕ) (i : ℕ) → length ls ≤ i → bucket b (drop i ls) (drop i ns) ≡ []
-bucket_all b ls ns i h = rw (drop_all i ls h)
 
 -- one literal more of the group: `shortest` is any number until there is one
 pub joined_cost_more : (count shortest m : ℕ) (rest : List ℕ) → (count ≡ 0 → m ≤ shortest) → joined_cost count shortest (m ∷ rest) ≡ joined_cost (count + 1) (min shortest m) rest

@@ -1,5 +1,5 @@
 -- Membership in a list by recursion, for inductions; `Contains` says the same by places.
-use Rattle.std.proofs.Common.{◌≡◌, ℕ, zero, suc, ◌<◌, List, [], ◌∷◌, ◌++◌, length, get_or, Contains, ◌⊎◌, inl, inr, refl, arith}
+use Rattle.std.proofs.Common.{◌≡◌, ℕ, zero, suc, ◌<◌, List, [], ◌∷◌, length, get_or, Contains, ◌⊎◌, inl, inr, arith}
 
 -- t is an element
 abbrev pub In : {X : Type 0} → X → List X → Type 0
@@ -19,19 +19,3 @@ pub contains_from_in : {X : Type 0} (t : X) (xs : List X) → In t xs → Contai
 contains_from_in t [] h = absurd h
 contains_from_in t (x ∷ xs) (inl e) = (zero, omega arith, e)
 contains_from_in t (x ∷ xs) (inr h) = let w = contains_from_in t xs h in (suc w.0, omega (arith, w.1), w.2)
-
--- an element of a list with one more after it is one of the list or the last one
-pub in_push_cases : {X : Type 0} (t : X) (xs : List X) (y : X) → In t (xs ++ y ∷ []) → In t xs ⊎ (y ≡ t)
-in_push_cases t [] y (inl e) = inr e
-in_push_cases t [] y (inr h) = absurd h
-in_push_cases t (x ∷ xs) y (inl e) = inl (inl e)
-in_push_cases t (x ∷ xs) y (inr h) = elim (in_push_cases t xs y h) [ inl there ↦ inl (inr there) | inr last ↦ inr last ]
-
-pub in_push_old : {X : Type 0} (t : X) (xs : List X) (y : X) → In t xs → In t (xs ++ y ∷ [])
-in_push_old t [] y h = absurd h
-in_push_old t (x ∷ xs) y (inl e) = inl e
-in_push_old t (x ∷ xs) y (inr h) = inr (in_push_old t xs y h)
-
-pub in_push_new : {X : Type 0} (xs : List X) (y : X) → In y (xs ++ y ∷ [])
-in_push_new [] y = inl refl
-in_push_new (x ∷ xs) y = inr (in_push_new xs y)

@@ -1,7 +1,7 @@
 -- The normal form of a pattern list: it is in order, has exactly the folded patterns, and keeps their limits.
 use Rattle.std.proofs.Common.{◌≡◌, ◌≢◌, ℕ, ◌+◌, ◌<◌, ◌≤◌, List, [], ◌∷◌, ◌++◌, length, get_or, map, sum_by, fold, All, Contains, ◌⊎◌, inl, inr, refl, sym, ap, ◌∙◌, subst, arith, append_assoc}
-use Rattle.std.proofs.lemmas.List.{length-map, append-nil, get_or-map}
-use Rattle.std.proofs.lemmas.List.Elements.{All-nil}
+use Rattle.std.proofs.lemmas.List.{length-map, append-nil, get_or-map, map-append}
+use Rattle.std.proofs.lemmas.List.Elements.{All-nil, Contains-append_left, Contains-push, Contains-push_cases}
 use Rattle.std.proofs.lemmas.List.Sums.{sum_by-cons}
 use Rattle.std.proofs.lemmas.Map.Views.{All-insert_key}
 use Rattle.std.proofs.lemmas.Bool.Decides.{nat_tests}
@@ -16,29 +16,25 @@ use Rattle.lit_base.specs.Literals.{literal_cmp, IsNormal}
 use Rattle.lit_base.specs.NormalForm.{IsNormalForm, with_pattern, normal_form}
 use Rattle.lit_base.specs.RawLists.{IsWithinLimits}
 use Rattle.lit_base.specs.declared.limits.TheConstants.{MAX_LITERALS, MAX_LITERAL_LEN, MAX_LIST_LEN}
-use Rattle.lit_base.proofs.Members.{In, in_from_contains, contains_from_in, in_push_cases, in_push_old, in_push_new}
+use Rattle.lit_base.proofs.Members.{In, in_from_contains, contains_from_in}
 use Rattle.lit_base.proofs.SortedLists.{same_elements}
 use Rattle.lit_base.proofs.InsertLemmas.{literal_total, rising-insert, in_insert_cases, in_insert_old, in_insert_new, sum_by-insert-le, length-insert-le}
 
 -- the literals of the patterns seen so far: in order, and exactly the nonempty folded patterns
 record Holds (folding : Fold) (seen texts : List (List ℕ)) : Type 0 where
   rising : IsStrictlySortedBy literal_cmp texts
-  only : (t : List ℕ) → In t texts → (0 < length t) × In t (map (folded_text folding) seen)
-  every : (t : List ℕ) → 0 < length t → In t (map (folded_text folding) seen) → In t texts
+  only : (t : List ℕ) → In t texts → (0 < length t) × Contains (map (folded_text folding) seen) t
+  every : (t : List ℕ) → 0 < length t → Contains (map (folded_text folding) seen) t → In t texts
 
 -- one more pattern
-map-push : {X Y : Type 0} (f : X → Y) (xs : List X) (x : X) → map f (xs ++ x ∷ []) ≡ map f xs ++ f x ∷ []
-map-push f [] x = refl
-map-push f (y ∷ ys) x = ap (λ zs. f y ∷ zs) (map-push f ys x)
+pushed : (folding : Fold) (seen : List (List ℕ)) (p t : List ℕ) → Contains (map (folded_text folding) (seen ++ p ∷ [])) t → Contains (map (folded_text folding) seen) t ⊎ (folded_text folding p ≡ t)
+pushed folding seen p t h = Contains-push_cases (map (folded_text folding) seen) (folded_text folding p) t (subst (λ ts. Contains ts t) (map-append (folded_text folding) seen (p ∷ [])) h)
 
-pushed : (folding : Fold) (seen : List (List ℕ)) (p t : List ℕ) → In t (map (folded_text folding) (seen ++ p ∷ [])) → In t (map (folded_text folding) seen) ⊎ (folded_text folding p ≡ t)
-pushed folding seen p t h = in_push_cases t (map (folded_text folding) seen) (folded_text folding p) (subst (In t) (map-push (folded_text folding) seen p) h)
+still : (folding : Fold) (seen : List (List ℕ)) (p t : List ℕ) → Contains (map (folded_text folding) seen) t → Contains (map (folded_text folding) (seen ++ p ∷ [])) t
+still folding seen p t h = subst (λ ts. Contains ts t) (sym (map-append (folded_text folding) seen (p ∷ []))) (Contains-append_left (map (folded_text folding) seen) (folded_text folding p ∷ []) t h)
 
-still : (folding : Fold) (seen : List (List ℕ)) (p t : List ℕ) → In t (map (folded_text folding) seen) → In t (map (folded_text folding) (seen ++ p ∷ []))
-still folding seen p t h = subst (In t) (sym (map-push (folded_text folding) seen p)) (in_push_old t (map (folded_text folding) seen) (folded_text folding p) h)
-
-last_one : (folding : Fold) (seen : List (List ℕ)) (p : List ℕ) → In (folded_text folding p) (map (folded_text folding) (seen ++ p ∷ []))
-last_one folding seen p = subst (In (folded_text folding p)) (sym (map-push (folded_text folding) seen p)) (in_push_new (map (folded_text folding) seen) (folded_text folding p))
+last_one : (folding : Fold) (seen : List (List ℕ)) (p : List ℕ) → Contains (map (folded_text folding) (seen ++ p ∷ [])) (folded_text folding p)
+last_one folding seen p = subst (λ ts. Contains ts (folded_text folding p)) (sym (map-append (folded_text folding) seen (p ∷ []))) (Contains-push (map (folded_text folding) seen) (folded_text folding p))
 
 holds_more : (folding : Fold) (seen texts : List (List ℕ)) (p : List ℕ) → Holds folding seen texts → Holds folding (seen ++ p ∷ []) (with_pattern folding texts p)
 holds_more folding seen texts [] h = record {
@@ -55,7 +51,7 @@ holds_more folding seen texts (b ∷ bs) h =
       rising = rising-insert texts k h.rising;
       only = λ t there. elim (in_insert_cases t texts k there) [
         | inl old ↦ ((h.only t old).0, still folding seen (b ∷ bs) t (h.only t old).1)
-        | inr new ↦ (subst (λ u. 0 < length u) new (omega arith), subst (λ u. In u (map (folded_text folding) (seen ++ (b ∷ bs) ∷ []))) new (last_one folding seen (b ∷ bs)))
+        | inr new ↦ (subst (λ u. 0 < length u) new (omega arith), subst (Contains (map (folded_text folding) (seen ++ (b ∷ bs) ∷ []))) new (last_one folding seen (b ∷ bs)))
       ];
       every = λ t some there. elim (pushed folding seen (b ∷ bs) t there) [
         | inl old ↦ in_insert_old t texts k (h.every t some old)
@@ -71,7 +67,7 @@ holds_all folding seen texts (p ∷ ps) h =
 
 holds_none : (folding : Fold) → Holds folding [] []
 unfolding IsStrictlySortedBy
-holds_none folding = record { rising = tt; only = λ t there. absurd there; every = λ t some there. absurd there }
+holds_none folding = record { rising = tt; only = λ t there. absurd there; every = λ t some there. absurd (omega (arith, there.1)) }
 
 -- the normal form is a list in normal form
 pub normal_form_is : (folding : Fold) (patterns : List (List ℕ)) → IsNormalForm folding patterns (normal_form folding patterns)
@@ -81,8 +77,8 @@ normal_form_is folding patterns =
     record {
       rising = h.rising;
       members = λ t. (
-        λ there. let w = h.only t (in_from_contains t (fold (with_pattern folding) [] patterns) there) in (w.0, contains_from_in t (map (folded_text folding) patterns) w.1),
-        λ w. contains_from_in t (fold (with_pattern folding) [] patterns) (h.every t w.0 (in_from_contains t (map (folded_text folding) patterns) w.1)),
+        λ there. h.only t (in_from_contains t (fold (with_pattern folding) [] patterns) there),
+        λ w. contains_from_in t (fold (with_pattern folding) [] patterns) (h.every t w.0 w.1),
       );
     }
 

@@ -12,7 +12,7 @@ use Rattle.lit_base.specs.declared.fold.Fold.{Fold}
 use Rattle.lit_base.specs.Folding.{folded_text}
 use Rattle.lit_base.specs.Literals.{literal_cmp}
 use Rattle.lit_base.specs.NormalForm.{IsPlaceOf}
-use Rattle.lit_base.proofs.SortedLists.{ties_itself}
+use Rattle.std.proofs.lemmas.Cmp.{tied_itself}
 use Rattle.lit_base.proofs.InsertLemmas.{literal_total, same_from_tie}
 
 -- no literal is less than the one before it
@@ -26,7 +26,7 @@ rising xs h k d low inside =
 pub not_there : (xs : List (List ℕ)) (t : List ℕ) (i : ℕ) → IsStrictlySortedBy literal_cmp xs → IsBinarySearchResult (λ y. literal_cmp y t) xs (Err i) → Contains xs t → ⊥
 not_there xs t i h search_result w =
     let split = search_result (searchable_from_sorted literal_total (λ y. y) xs t (rising xs h)) in
-    let same : literal_cmp (get_or xs w.0 t) t ≡ Equal = ap (λ u. literal_cmp u t) w.2 ∙ ties_itself literal_cmp literal_total t in
+    let same : literal_cmp (get_or xs w.0 t) t ≡ Equal = ap (λ u. literal_cmp u t) w.2 ∙ tied_itself literal_total t in
     elim (cases_lt w.0 i) [
       | inl before ↦ let less = split.0 w.0 t (omega arith) before in cc
       | inr after ↦ let greater = split.1 w.0 t after w.1 in cc

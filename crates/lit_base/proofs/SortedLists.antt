@@ -5,13 +5,8 @@ use Rattle.std.specs.Ordering.{ordering_reverse}
 use Rattle.std.specs.Cmp.{IsTotalOrder}
 use Rattle.std.specs.List.{AllByRecursion}
 use Rattle.std.specs.List.Sorted.{IsStrictlySortedBy}
+use Rattle.std.proofs.lemmas.Cmp.{tied_itself}
 use Rattle.lit_base.proofs.Members.{In, in_from_contains, contains_from_in}
-
--- an element ties with itself
-tie : (r : Ordering) → r ≡ ordering_reverse r → r ≡ Equal
-tie Less e = (cc)
-tie Equal e = refl
-tie Greater e = (cc)
 
 -- what holds of all elements holds of one
 of_one : {K : Type 0} (P : K → Type 0) (t : K) (xs : List K) → AllByRecursion P xs → In t xs → P t
@@ -20,12 +15,9 @@ of_one P t (x ∷ xs) all (inl e) = subst P e all.0
 of_one P t (x ∷ xs) all (inr h) = of_one P t xs all.1 h
 
 module _ {K : Type 0} (R : K → K → Ordering) (o : IsTotalOrder R) where
-  pub ties_itself : (t : K) → R t t ≡ Equal
-  ties_itself t = tie (R t t) (o.antisymm t t)
-
   -- no element is below itself
   pub not_below : (t u : K) → R t u ≡ Less → t ≡ u → ⊥
-  not_below t u less e = let same : R t u ≡ Equal = ap (R t) (sym e) ∙ ties_itself t in (cc)
+  not_below t u less e = let same : R t u ≡ Equal = ap (R t) (sym e) ∙ tied_itself o t in (cc)
 
   -- no two are below each other
   not_both : (t u : K) → R t u ≡ Less → R u t ≡ Less → ⊥

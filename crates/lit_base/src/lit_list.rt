@@ -109,12 +109,14 @@ impl LitList {
         self.literals.get(0).len()
     }
 
-    /// The length of the longest literal, which is the last.
+    /// The length of the longest literal, which is the last, or 0 if there is none.
     pub fn longest(&self) -> usize
-        requires { 0 < length self.now.texts }
         ensures last { result ≡ slice_index (lengths self.now) (length self.now.texts - 1) }
         ensures greatest { All (λ len. len ≤ result) (lengths self.now) }
     {
+        if self.literals.len() == 0 {
+            return 0;
+        }
         self.literals.get(self.literals.len() - 1).len()
     }
 

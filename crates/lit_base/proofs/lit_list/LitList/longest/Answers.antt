@@ -1,5 +1,5 @@
 -- The last length is the greatest.
-use Rattle.std.proofs.Common.{◌≡◌, ◌-◌, length, get_or, arith, subst}
+use Rattle.std.proofs.Common.{◌≡◌, ◌-◌, ◌<◌, length, get_or, arith, subst}
 use Rattle.std.proofs.lemmas.Grind.{common_steps}
 use Rattle.lit_base.specs.Literals.{IsNormal}
 use Rattle.lit_base.proofs.LengthLemmas.{last_greatest}
@@ -10,7 +10,8 @@ pub returns-clause-last : goal.returns-clause-last
 returns-clause-last c =
     let last = length c.args.self.now.texts - 1 in
     let at : c.get.result.now ≡ get_or c.args.self.now.texts last c.get.result.now = grind (arith, common_steps) in
-    mapped_at length c.args.self.now.texts last c.get.result.now (omega (arith, c.requires)) at
+    let some : 0 < length c.args.self.now.texts = grind (arith, common_steps) in
+    mapped_at length c.args.self.now.texts last c.get.result.now (omega (arith, some)) at
 
 pub returns-clause-greatest : goal.returns-clause-greatest
 returns-clause-greatest c =
