@@ -70,14 +70,6 @@ impl Tally {
     pub fn end(&mut self)
         ensures { self.new ≡ record self.old { ends = min (self.old.ends + 1) (2 ^ 64 - 1) } }
     {
-        self.count_ends(1);
-    }
-
-    /// Counts `count` ends.
-    #[inline(always)]
-    pub fn count_ends(&mut self, count: usize)
-        ensures { self.new ≡ record self.old { ends = min (self.old.ends + count) (2 ^ 64 - 1) } }
-    {
-        self.ends = self.ends.saturating_add(count);
+        self.ends = self.ends.saturating_add(1);
     }
 }
