@@ -3,7 +3,8 @@ use list_index::ListIndex;
 use lit_base::{Fold, LitList, RawList};
 use std::alloc::Global;
 use std::sync::Arc;
-use text_automaton::Automaton;
+use text_automaton::{Automaton, AutomatonEnds};
+use text_ends::Ends;
 
 /// Literals, some of them the end of others, and some the beginning.
 const NESTED: [&[u8]; 8] = [
@@ -28,7 +29,7 @@ fn is_made(alloc: Global, fold: Fold, literals: &[&[u8]]) -> Option<bool> {
     let index = index_of(alloc, fold, literals)?;
     let mut automaton = Automaton::new(alloc, index).ok()?;
     let is_made = automaton.learn();
-    let is_read = automaton.reading_after(b"", 0).is_some();
+    let is_read = AutomatonEnds::after(&automaton, b"", 0).is_some();
     if is_made == is_read && automaton.learn() == is_made {
         Some(is_made)
     } else {
@@ -45,21 +46,22 @@ fn makes_the_tables_of_a_list(rt: HostRuntime) {
     assert_eq!(rt; is_made(alloc, Fold::No, &[]), Some(true));
 }
 
-/// Where the literals of a list end in a text: how many ends, and the sum of their positions.
+/// Where the literals of a list end in a text: how many hits there are, and the sum of the positions of the ends.
 fn ends_in(alloc: Global, fold: Fold, literals: &[&[u8]], text: &[u8]) -> Option<(usize, usize)> {
     let index = index_of(alloc, fold, literals)?;
     let mut automaton = Automaton::new(alloc, index).ok()?;
     let _is_made = automaton.learn();
-    let (mut count, mut sum, mut from) = (0usize, 0usize, 0);
+    let mut hits = Vec::new(alloc);
+    let (mut sum, mut from) = (0usize, 0);
     for _ in 0..=text.len().min(100_000) {
         if from > text.len() {
             return None;
         }
-        let mut reading = automaton.reading_after(text, from)?;
-        let Some((end, state)) = automaton.next_end(text, &mut reading) else {
-            return Some((count, sum));
+        let mut ends = AutomatonEnds::after(&automaton, text, from)?;
+        let Some((end, state)) = ends.next_end() else {
+            return Some((hits.len(), sum));
         };
-        count = count.saturating_add(automaton.output_of(state).len());
+        ends.add_hits_at(end, state, end as u64, &mut hits).ok()?;
         sum = sum.saturating_add(end);
         from = end;
     }

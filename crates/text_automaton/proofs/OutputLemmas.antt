@@ -5,9 +5,10 @@ use Rattle.std.proofs.lemmas.List.{ext_get_or, get_or-drop, get_or-map, get_or-t
 use Rattle.std.proofs.lemmas.List.Elements.{Contains-append_left, Contains-get_or, Contains-push, Contains-push_cases}
 use Rattle.std.proofs.lemmas.Option.{get_or_from_slice_get, slice_get-get_or, slice_get_within}
 use Rattle.lit_base.specs.Folding.{folded, folded_text}
-use Rattle.lit_base.specs.Literals.{Literals, literal_at}
+use Rattle.lit_base.specs.Literals.{Literals, lengths, literal_at}
 use Rattle.lit_base.specs.Occurrences.{HasEnd, Occurs}
 use Rattle.lit_base.specs.declared.fold.Fold.{Fold}
+use Rattle.lit_base.proofs.LengthLemmas.{length_at}
 use Rattle.text_automaton.specs.Automata.{AreEnding, IsReading, IsStateAt, Outputs, place_of, output_of}
 use Rattle.text_automaton.specs.declared.reading.Reading.{Reading}
 use Rattle.text_automaton.specs.Prefixes.{Begins, IsNextShorter, IsPath, IsRead, Leads, read_of, state_after}
@@ -210,7 +211,7 @@ begins_of_ends l text from count place end here prefix o =
     ∙ ap (λ p. folded l.folding (slice_index text p)) same)
 
 -- the output of a position's state is the literals that end there
-pub output_there : (t : Tables) (l : Literals) (text : List ℕ) (longest end to : ℕ) → AreRight t l → All (λ x. 0 < length x) l.texts → ((place : ℕ) → place < length l.texts → length (literal_at l place) ≤ longest)
+pub output_there : (t : Tables) (l : Literals) (text : List ℕ) (longest end to : ℕ) → AreRight t l → All (λ x. 0 < length x) l.texts → All (λ len. len ≤ longest) (lengths l)
     → ((i : ℕ) → slice_index text i < 256) → end ≤ length text → IsRead t text longest end to → AreEnding l text end (output_at t to)
 output_there t l text longest end to right nonempty fits small inside is =
     let leads = read_leads t l right text small is.from is.count in
@@ -226,7 +227,7 @@ output_there t l text longest end to right nonempty fits small inside is =
             let within = slice_get_within l.texts place o.literal o.stands in
             let prefix : (is.from ≡ 0) ⊎ (is.from + length (literal_at l place) ≤ end) = elim is.prefix [
               | inl none ↦ inl none
-              | inr far ↦ inr (omega (arith, far, fits place within))
+              | inr far ↦ inr (omega (arith, far, fits place 0 (omega (arith, within, length-map l.texts (length {A = ℕ}))), length_at l.texts place 0 within))
             ] in
             subst (λ s. Contains (output_at t s) place) same ((report place).1 within
             (leads.2.longest (prefix_of (literal_at l place) (length (literal_at l place))) (literal_path t l right place within (length (literal_at l place)) (omega arith))
@@ -235,9 +236,9 @@ output_there t l text longest end to right nonempty fits small inside is =
     }
 
 -- it is the state of the position, where only the outputs of the tables are seen
-pub state_there : (t : Tables) (l : Literals) (text : List ℕ) (longest end to : ℕ) (made : Bool) → AreRight t l → All (λ x. 0 < length x) l.texts → ((place : ℕ) → place < length l.texts → length (literal_at l place) ≤ longest)
+pub state_there : (t : Tables) (l : Literals) (text : List ℕ) (longest end to : ℕ) (made : Bool) → AreRight t l → All (λ x. 0 < length x) l.texts → All (λ len. len ≤ longest) (lengths l)
     → ((i : ℕ) → slice_index text i < 256) → end ≤ length text → IsRead t text longest end to
-    → IsStateAt (record { literals = l; output = t.output.items; lows = t.lows.items; highs = t.highs.items; quiet = t.quiet; is_made = made }) text end to
+    → IsStateAt (record { literals = l; outputs = t.outputs.items; lows = t.lows.items; highs = t.highs.items; quiet = t.quiet; is_made = made }) text end to
 state_there t l text longest end to made right nonempty fits small inside is =
     let reporting = right.reporting to is.known in
     record {

@@ -45,12 +45,7 @@ leads_on t b r s to old new = record {
 pub leads_none : (t : Tables) → Leads t [] []
 leads_none t = record { path = tt; ends = tt; longest = λ w path ends. ends }
 
--- the state of a path that is not empty is not the first
-pub state_positive : (t : Tables) (s : List ℕ) → IsPath t s → 0 < length s → 0 < state_of t s
-state_positive t [] p some = absurd (omega (arith, some))
-state_positive t (b ∷ s) p some = p.2.1
-
--- each is a state
+-- the state of a path is a state
 pub state_small : (t : Tables) (s : List ℕ) → AreSized t → IsPath t s → state_of t s < count_of t
 state_small t [] sized p = sized.some
 state_small t (b ∷ s) sized p =
@@ -114,6 +109,11 @@ module _ (t : Tables) (sized : AreSized t) (steps : (state class : ℕ) → stat
       further [] path ends = tt
       further (c ∷ w) path ends = absurd (apart [] b c w not path ends.0 ends.1 (omega arith))
 
+  -- where no byte was read, the state is the first
+  empty : (s : List ℕ) → length s ≤ 0 → 0 < state_of t s → ⊥
+  empty [] none some = omega (arith, some)
+  empty (b ∷ s) none some = omega (arith, none)
+
   -- where a byte leads, if the next shorter path is known and where the byte leads from it
   goes : (s : List ℕ) (b : ℕ) → IsPath t s → IsKnown t b → (0 < length s → (down : Falls s) × Goes down.0 b) → Goes s b
   goes s b path known shorter = elim (steps (state_of t s) (slice_index t.classes b) (state_small t s sized path) known.class) [
@@ -132,10 +132,6 @@ module _ (t : Tables) (sized : AreSized t) (steps : (state class : ℕ) → stat
       ]
     ]
   ]
-    where
-      empty : (s : List ℕ) → length s ≤ 0 → 0 < state_of t s → ⊥
-      empty [] none some = omega (arith, some)
-      empty (b ∷ s) none some = omega (arith, none)
 
   -- the next shorter path of one byte is empty
   falls_first : (x : ℕ) → IsNextShorter t (x ∷ []) []
@@ -179,10 +175,6 @@ module _ (t : Tables) (sized : AreSized t) (steps : (state class : ℕ) → stat
           | inr none ↦ absurd (empty s (omega (arith, none)) (omega (arith, further.0, parent)))
         ]
       ]
-    where
-      empty : (s : List ℕ) → length s ≤ 0 → 0 < state_of t s → ⊥
-      empty [] none some = omega (arith, some)
-      empty (b ∷ s) none some = omega (arith, none)
 
   -- both, for paths of bounded length
   abbrev Known : ℕ → Type 0

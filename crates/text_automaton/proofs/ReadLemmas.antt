@@ -22,10 +22,6 @@ read_on t text longest place at next state to old here there led known = record 
   known = known;
 }
 
--- a state belongs to a position, however the position is written
-pub read_there : (t : Tables) (text : List ℕ) (longest place other state : ℕ) → place ≡ other → IsRead t text longest place state → IsRead t text longest other state
-read_there t text longest place other state same old = subst (λ p. IsRead t text longest p state) same old
-
 -- what holds of some places of a list, and of a number, holds of them and of the place where it is put
 pub set_more : (P : ℕ → ℕ → Type 0) (D : ℕ → Type 0) (xs : List ℕ) (at value : ℕ) → at < length xs → ((k : ℕ) → D k → P k (get_or xs k 0)) → P at value
     → (k : ℕ) → (D k ⊎ (k ≡ at)) → P k (get_or (set xs at value) k 0)
@@ -40,26 +36,6 @@ set_more P D xs at value room old new k which = elim (cases_eq k at) [
 -- a position lies in the finished part of one of four lanes of equal length
 abbrev pub AreDone : ℕ → ℕ → ℕ → Type 0
 AreDone lane count k = ((k < count) ⊎ ((lane ≤ k) × (k < lane + count))) ⊎ (((2 * lane ≤ k) × (k < 2 * lane + count)) ⊎ ((3 * lane ≤ k) × (k < 3 * lane + count)))
-
--- no position is finished at first
-pub done_none : (lane k : ℕ) → AreDone lane 0 k → ⊥
-done_none lane k (inl (inl p)) = omega (arith, p)
-done_none lane k (inl (inr p)) = omega (arith, p.0, p.1)
-done_none lane k (inr (inl p)) = omega (arith, p.0, p.1)
-done_none lane k (inr (inr p)) = omega (arith, p.0, p.1)
-
--- and all are in the end
-pub done_all : (lane k : ℕ) → k < 4 * lane → AreDone lane lane k
-done_all lane k small = elim (cases_lt k lane) [
-  | inl in_first ↦ inl (inl in_first)
-  | inr past_first ↦ elim (cases_lt k (2 * lane)) [
-    | inl in_second ↦ inl (inr (past_first, omega (arith, in_second)))
-    | inr past_second ↦ elim (cases_lt k (3 * lane)) [
-      | inl in_third ↦ inr (inl (past_second, omega (arith, in_third)))
-      | inr past_third ↦ inr (inr (past_third, omega (arith, small)))
-    ]
-  ]
-]
 
 -- one more of each lane: the positions before, and four more
 pub done_more : (lane count k : ℕ) → AreDone lane (count + 1) k → (((AreDone lane count k ⊎ (k ≡ count)) ⊎ (k ≡ lane + count)) ⊎ (k ≡ 2 * lane + count)) ⊎ (k ≡ 3 * lane + count)

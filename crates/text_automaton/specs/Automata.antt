@@ -3,7 +3,6 @@ use Rattle.std.specs.Prelude.{◌≡◌, ℕ, ◌+◌, ◌<◌, ◌≤◌, ◌�
 use Rattle.std.specs.List.{sum_by}
 use Rattle.std.specs.List.Sorted.{IsStrictlyIncreasing}
 use Rattle.lit_base.specs.Literals.{Literals}
-use Rattle.lit_base.specs.NextEnds.{IsNextEnd}
 use Rattle.lit_base.specs.Occurrences.{Occurs}
 use Rattle.text_automaton.specs.declared.reading.Reading.{Reading}
 use Rattle.text_automaton.specs.declared.reading.TheConstants.{BLOCK}
@@ -13,7 +12,7 @@ use Rattle.text_automaton.specs.declared.tables.TheConstants.{MOST_STATES}
 -- automaton is made, no state belongs to a position
 pub record Outputs : Type 0 where
   pub literals : Literals
-  pub output : List ℕ
+  pub outputs : List ℕ
   pub lows : List ℕ
   pub highs : List ℕ
   pub quiet : ℕ
@@ -25,7 +24,7 @@ room_of l = min MOST_STATES (sum_by length l.texts + 1)
 
 -- the output of a state
 abbrev pub output_of : Outputs → ℕ → List ℕ
-output_of a state = slice_range a.output (slice_index a.lows state) (slice_index a.highs state)
+output_of a state = slice_range a.outputs (slice_index a.lows state) (slice_index a.highs state)
 
 -- these are the literals that end at a position of a text, in order
 pub record AreEnding (l : Literals) (text : List ℕ) (end : ℕ) (found : List ℕ) : Type 0 where
@@ -54,8 +53,3 @@ pub record IsReading (a : Outputs) (text : List ℕ) (r : Reading) : Type 0 wher
 -- the position up to which it is read
 abbrev pub place_of : Reading → ℕ
 place_of r = r.start + r.next
-
--- an end, and a state: the next end after a position, and the state there
-pub record IsNextReported (a : Outputs) (text : List ℕ) (from : ℕ) (found : ℕ × ℕ) : Type 0 where
-  pub next : IsNextEnd a.literals text from found.0
-  pub state : IsStateAt a text found.0 found.1

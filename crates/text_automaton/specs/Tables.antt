@@ -17,7 +17,7 @@ step t state class = slice_index t.rows.items (CLASSES * state + class)
 
 -- the output of a state
 abbrev pub output_at : Tables → ℕ → List ℕ
-output_at t state = slice_range t.output.items (slice_index t.lows.items state) (slice_index t.highs.items state)
+output_at t state = slice_range t.outputs.items (slice_index t.lows.items state) (slice_index t.highs.items state)
 
 -- each state has a row and all other entries; each entry is a state, or a range of the outputs
 pub record AreSized (t : Tables) : Type 0 where
@@ -31,7 +31,7 @@ pub record AreSized (t : Tables) : Type 0 where
   pub highs : length t.highs.items ≡ count_of t
   pub stepped : (i : ℕ) → i < length t.rows.items → slice_index t.rows.items i < count_of t
   pub known : (state : ℕ) → state < count_of t → (slice_index t.parents.items state < count_of t) × (slice_index t.fails.items state < count_of t)
-      × (slice_index t.lows.items state ≤ slice_index t.highs.items state) × (slice_index t.highs.items state ≤ length t.output.items)
+      × (slice_index t.lows.items state ≤ slice_index t.highs.items state) × (slice_index t.highs.items state ≤ length t.outputs.items)
 
 -- a byte has the class of its folded byte, and each class but 0 belongs to one folded byte
 abbrev pub AreClasses : Fold → List ℕ → List ℕ → Type 0

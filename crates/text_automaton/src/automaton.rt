@@ -1,9 +1,7 @@
 //! The automaton of a list, and a search for ends by it.
-ghost use Rattle.std.specs.Prelude.{◌≡◌, ℕ, ◌+◌, ◌<◌, ◌≤◌, IfOk, IfSome, MatchOption, false, length, true};
-ghost use Rattle.std.specs.Option.{IfNone};
-ghost use Rattle.lit_base.specs.Literals.{literal_at};
-ghost use Rattle.lit_base.specs.NextEnds.{NoEndAfter};
-ghost use Rattle.text_automaton.specs.Automata.{IsNextReported, IsReading, place_of, room_of, output_of};
+ghost use Rattle.std.specs.Prelude.{◌≡◌, ◌+◌, ◌<◌, ◌≤◌, IfOk, IfSome, MatchOption, false, length, true};
+ghost use Rattle.lit_base.specs.NextEnds.{IsNextEnd, NoEndAfter};
+ghost use Rattle.text_automaton.specs.Automata.{IsReading, IsStateAt, place_of, room_of, output_of};
 
 use crate::reading::Reading;
 use crate::reporting::first_reporting;
@@ -49,7 +47,7 @@ impl Model for Automaton {
 
     ghost view = { λ a. record {
       literals = a.index.value;
-      output = a.tables.output.items;
+      outputs = a.tables.outputs.items;
       lows = a.tables.lows.items;
       highs = a.tables.highs.items;
       quiet = a.tables.quiet;
@@ -112,26 +110,25 @@ impl Automaton {
         }
     }
 
-    /// A reading of the text after position `from`, with nothing read yet, or `None` if the tables are not made.
-    pub fn reading_after(&self, text: &[u8], from: usize) -> Option<Reading>
-        requires { from ≤ length text.now }
-        ensures some { IfSome result (λ reading. IsReading self.now text.now reading × (place_of reading ≡ from)) }
-        ensures none { IfNone result (self.now.is_made ≡ false) }
+    /// Whether the tables are made.
+    pub(crate) fn is_made(&self) -> bool
+        ensures { result ≡ self.now.is_made }
     {
         match self.stage {
-            Stage::Made => Some(Reading::after(from)),
-            Stage::Unmade | Stage::Refused => None,
+            Stage::Made => true,
+            Stage::Unmade | Stage::Refused => false,
         }
     }
 
     /// The next position at which some literal ends, with its state; the reading moves there. `None` if no literal ends
     /// after the position of the reading. It takes no memory.
     #[inline]
-    pub fn next_end(&self, text: &[u8], reading: &mut Reading) -> Option<(usize, usize)>
+    pub(crate) fn next_end(&self, text: &[u8], reading: &mut Reading) -> Option<(usize, usize)>
         requires { IsReading self.now text.now reading.old }
         ensures next { MatchOption result
             (NoEndAfter self.now.literals text.now (place_of reading.old))
-            (IsNextReported self.now text.now (place_of reading.old)) }
+            (λ found. IsNextEnd self.now.literals text.now (place_of reading.old) found.0) }
+        ensures state { IfSome result (λ found. IsStateAt self.now text.now found.0 found.1) }
         ensures reading { IsReading self.now text.now reading.new }
         ensures place { IfSome result (λ found. place_of reading.new ≡ found.0) }
         ensures ahead { place_of reading.old ≤ place_of reading.new }
@@ -167,7 +164,7 @@ impl Automaton {
         let list = self.index.list();
         list.normal_law();
         let start = reading.start + reading.count;
-        let longest = longest_of(list);
+        let longest = list.longest();
         let count = self
             .tables
             .read_after(text, longest, start, &mut reading.states);
@@ -178,7 +175,7 @@ impl Automaton {
 
     /// The output of a state of a position: its literals, in order.
     #[inline(always)]
-    pub fn output_of(&self, state: usize) -> &[u16]
+    pub(crate) fn output_of(&self, state: usize) -> &[u16]
         requires made { self.now.is_made ≡ true }
         requires known { state < length self.now.lows }
         ensures { result.now ≡ output_of self.now state }
@@ -196,14 +193,4 @@ fn room_for(list: &LitList) -> usize
         room = room.saturating_add(list.get(place).len()).min(MOST_STATES);
     }
     room
-}
-
-/// The length of the longest literal, or 0 if there is none.
-fn longest_of(list: &LitList) -> usize
-    ensures { (place : ℕ) → place < length list.now.texts → length (literal_at list.now place) ≤ result }
-{
-    if list.is_empty() {
-        return 0;
-    }
-    list.longest()
 }

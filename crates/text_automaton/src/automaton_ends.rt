@@ -1,10 +1,11 @@
 //! Searches for ends by the automaton of the literals.
-ghost use Rattle.std.specs.Prelude.{◌≡◌, ◌+◌, ◌≤◌, OnOk, length, true};
+ghost use Rattle.std.specs.Prelude.{◌≡◌, ◌+◌, ◌≤◌, IfSome, OnOk, false, length, true};
+ghost use Rattle.std.specs.Option.{IfNone};
 ghost use Rattle.text_ends.specs.HitsAt.{Extends, GainsHitsAt};
-ghost use Rattle.text_automaton.specs.Automata.{AreEnding, IsReading, IsStateAt, place_of};
+ghost use Rattle.text_automaton.specs.Automata.{AreEnding, IsStateAt};
 
 use crate::automaton::Automaton;
-use crate::reading::Reading;
+use crate::reading::{BLOCK, Reading};
 use list_index::ListIndex;
 use std::alloc::AllocError;
 use std::marker::Model;
@@ -35,17 +36,26 @@ impl<'a> Model for AutomatonEnds<'a> {
 }
 
 impl<'a> AutomatonEnds<'a> {
-    /// The ends after the position that `reading` has reached.
-    pub fn of(automaton: &'a Automaton, text: &'a [u8], reading: Reading) -> AutomatonEnds<'a>
-        requires { IsReading automaton.now text.now reading }
-        ensures { result.walk ≡ record { literals = automaton.now.literals; text = text.now; from = place_of reading } }
+    /// The ends after a position, or `None` if the automaton's tables are not made.
+    pub fn after(automaton: &'a Automaton, text: &'a [u8], from: usize) -> Option<AutomatonEnds<'a>>
+        requires { from ≤ length text.now }
+        ensures some { IfSome result (λ ends. ends.walk ≡ record { literals = automaton.now.literals; text = text.now; from = from }) }
+        ensures none { IfNone result (automaton.now.is_made ≡ false) }
     {
-        AutomatonEnds {
+        if !automaton.is_made() {
+            return None;
+        }
+        Some(AutomatonEnds {
             automaton,
             text,
-            reading,
+            reading: Reading {
+                states: [0; BLOCK],
+                start: from,
+                count: 0,
+                next: 0,
+            },
             ends: 0,
-        }
+        })
     }
 
     /// How many ends were found so far.

@@ -84,14 +84,14 @@ impl Tables {
         requires lows { length self.now.lows.items ≡ count }
         requires highs { length self.now.highs.items ≡ count }
         ensures { IsTrue result → (state : ℕ) → state < count → (slice_index self.now.parents.items state < count) × (slice_index self.now.fails.items state < count)
-            × (slice_index self.now.lows.items state ≤ slice_index self.now.highs.items state) × (slice_index self.now.highs.items state ≤ length self.now.output.items) }
+            × (slice_index self.now.lows.items state ≤ slice_index self.now.highs.items state) × (slice_index self.now.highs.items state ≤ length self.now.outputs.items) }
     {
         for state in 0..count {
             let high = self.highs[state] as usize;
             if self.parents[state] as usize >= count
                 || self.fails[state] as usize >= count
                 || self.lows[state] as usize > high
-                || high > self.output.len()
+                || high > self.outputs.len()
             {
                 return false;
             }
@@ -239,7 +239,7 @@ impl Tables {
         requires state { state < length self.now.parents.items }
         ensures { result.now ≡ output_at self.now state }
     {
-        &self.output[self.lows[state] as usize..self.highs[state] as usize]
+        &self.outputs[self.lows[state] as usize..self.highs[state] as usize]
     }
 
     /// Whether each state has the right output, for a list of `count` literals.

@@ -11,4 +11,3 @@ mod tables;
 
 pub use automaton::Automaton;
 pub use automaton_ends::AutomatonEnds;
-pub use reading::Reading;

@@ -12,7 +12,7 @@ impl Tables {
         self.class_bytes(list)?;
         self.grow(list)?;
         self.note_outputs()?;
-        self.part();
+        self.partition_silent();
         Some(())
     }
 
@@ -23,7 +23,7 @@ impl Tables {
         self.lasts.clear();
         self.fails.clear();
         self.owns.clear();
-        self.output.clear();
+        self.outputs.clear();
         self.ends.clear();
         // It takes no memory, and so is not refused.
         let _are_made = self.ends.resize(list.len(), 0);
@@ -88,7 +88,7 @@ impl Tables {
         let mut first = 0;
         for len in 0..MOST_STATES {
             let last = self.parents.len();
-            self.take_over(first, last);
+            self.copy_fail_rows(first, last);
             if first == last {
                 return Some(());
             }
@@ -99,9 +99,9 @@ impl Tables {
     }
 
     /// Each byte leads from these states where it leads from their failure links, until a longer prefix is added.
-    fn take_over(&mut self, first: usize, last: usize) {
+    fn copy_fail_rows(&mut self, first: usize, last: usize) {
         for state in first.max(1)..last {
-            let from = CLASSES * usize::from(self.fail_at(state));
+            let from = CLASSES * usize::from(at(&self.fails, state));
             let to = state.saturating_mul(CLASSES);
             if from + CLASSES <= self.rows.len() && to <= self.rows.len() - CLASSES {
                 self.rows.copy_within(from..from + CLASSES, to);
@@ -139,7 +139,7 @@ impl Tables {
     fn longer(&mut self, state: u16, byte: u8, last: usize) -> Option<u16> {
         let class = self.classes[usize::from(byte)];
         let slot = CLASSES * usize::from(state) + usize::from(class);
-        let to = self.row_at(slot);
+        let to = at(&self.rows, slot);
         if usize::from(to) >= last {
             return Some(to);
         }
@@ -153,19 +153,20 @@ impl Tables {
         self.lows.clear();
         self.highs.clear();
         for state in 0..self.parents.len() {
-            let low = u16::try_from(self.output.len()).ok()?;
-            let (first, last) = self.range_at(usize::from(self.fail_at(state)));
+            let low = u16::try_from(self.outputs.len()).ok()?;
+            let fail = usize::from(at(&self.fails, state));
+            let (first, last) = self.range_at(fail);
             for place in first..last {
-                let literal = self.literal_at(place);
+                let literal = at(&self.outputs, place);
                 self.note_output(literal)?;
             }
-            let own = self.own_at(state);
+            let own = at(&self.owns, state);
             if own != NONE {
                 self.note_output(own)?;
             }
             self.lows.push(low).ok()?;
             self.highs
-                .push(u16::try_from(self.output.len()).ok()?)
+                .push(u16::try_from(self.outputs.len()).ok()?)
                 .ok()?;
         }
         Some(())
@@ -173,40 +174,20 @@ impl Tables {
 
     /// Adds a literal to the outputs.
     fn note_output(&mut self, literal: u16) -> Option<()> {
-        if self.output.len() >= MOST_OUTPUTS {
+        if self.outputs.len() >= MOST_OUTPUTS {
             return None;
         }
-        self.output.push(literal).ok()
+        self.outputs.push(literal).ok()
     }
 
-    /// What stands at a place of the rows.
-    fn row_at(&self, slot: usize) -> u16 {
-        at(&self.rows, slot)
-    }
-
-    /// The failure link of a state.
-    fn fail_at(&self, state: usize) -> u16 {
-        at(&self.fails, state)
-    }
-
-    /// The literal that a state spells, or `NONE`.
-    fn own_at(&self, state: usize) -> u16 {
-        at(&self.owns, state)
-    }
-
-    /// The literal at a place of the outputs.
-    fn literal_at(&self, place: usize) -> u16 {
-        at(&self.output, place)
-    }
-
-    /// Where the output of a state begins in `output`, and where it ends.
+    /// Where the output of a state begins in `outputs`, and where it ends.
     fn range_at(&self, state: usize) -> (usize, usize) {
         let (low, high) = (at(&self.lows, state), at(&self.highs, state));
         (usize::from(low), usize::from(high))
     }
 
     /// Moves the states with output after the states without.
-    fn part(&mut self) {
+    fn partition_silent(&mut self) {
         let mut names = [0u16; MOST_STATES];
         for state in 0..MOST_STATES {
             names[state] = state as u16;

@@ -14,30 +14,14 @@ pub(crate) const BLOCK: usize = 4096;
 
 /// The states of some positions of a text, and how many of them are passed.
 #[derive(Debug, Drop)]
-pub struct Reading {
-    pub(crate) states: [u16; BLOCK],
+pub(crate) struct Reading {
+    pub states: [u16; BLOCK],
     /// The position before the first of them.
-    pub(crate) start: usize,
+    pub start: usize,
     /// How many there are.
-    pub(crate) count: usize,
+    pub count: usize,
     /// How many of them are passed.
-    pub(crate) next: usize,
-}
-
-impl Reading {
-    /// A reading of a text after a position, with nothing read yet.
-    pub(crate) fn after(from: usize) -> Reading
-        ensures start { result.start ≡ from }
-        ensures count { result.count ≡ 0 }
-        ensures next { result.next ≡ 0 }
-    {
-        Reading {
-            states: [0; BLOCK],
-            start: from,
-            count: 0,
-            next: 0,
-        }
-    }
+    pub next: usize,
 }
 
 impl Tables {

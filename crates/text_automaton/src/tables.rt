@@ -39,11 +39,11 @@ pub(crate) struct Tables {
     pub fails: Vec<u16>,
     /// The literal that it spells, or `NONE`.
     pub owns: Vec<u16>,
-    /// Where the output of a state begins in `output`, and where it ends.
+    /// Where the output of a state begins in `outputs`, and where it ends.
     pub lows: Vec<u16>,
     pub highs: Vec<u16>,
     /// The outputs of all states, each in the order of the list.
-    pub output: Vec<u16>,
+    pub outputs: Vec<u16>,
     /// The state of each literal.
     pub ends: Vec<u16>,
     /// The number of states without output.
@@ -65,7 +65,7 @@ impl Tables {
             owns: Vec::with_capacity(alloc, room)?,
             lows: Vec::with_capacity(alloc, room)?,
             highs: Vec::with_capacity(alloc, room)?,
-            output: Vec::with_capacity(alloc, MOST_OUTPUTS)?,
+            outputs: Vec::with_capacity(alloc, MOST_OUTPUTS)?,
             ends: Vec::with_capacity(alloc, MAX_LITERALS)?,
             quiet: 0,
         })

@@ -380,10 +380,9 @@ impl EndFinder {
         ensures same_hits { OnErr result (out.new.items ≡ out.old.items) }
         ensures quiet { NoEndAfter compiled.now.literals text.now from → IsOk result }
     {
-        let Some(reading) = self.automaton.reading_after(text, from) else {
+        let Some(mut ends) = AutomatonEnds::after(&self.automaton, text, from) else {
             return self.add_hits_by_plan(compiled, text, from, at, most, out);
         };
-        let mut ends = AutomatonEnds::of(&self.automaton, text, reading);
         let stop = add_hits_of(&mut ends, text, from, at, most, out)?;
         let found = ends.ends();
         let spent = self.price_of_automaton(compiled, stop - from, found);

@@ -12,7 +12,7 @@ use lit_base::Fold;
 use lit_plan::Compiled;
 use shift_search::{ShiftOr, ShiftedEnds};
 use std::alloc::Global;
-use text_automaton::Automaton;
+use text_automaton::{Automaton, AutomatonEnds};
 use text_ends::{EndRate, Ends};
 use text_search::{EndFinder, next_end};
 
@@ -144,8 +144,8 @@ fn ends_by_automaton(
         if from > text.len() {
             return None;
         }
-        let mut reading = automaton.reading_after(text, from)?;
-        let Some((end, _)) = automaton.next_end(text, &mut reading) else {
+        let mut ends = AutomatonEnds::after(automaton, text, from)?;
+        let Some((end, _)) = ends.next_end() else {
             return Some((text.len(), summary));
         };
         summary = with_end(summary, end);

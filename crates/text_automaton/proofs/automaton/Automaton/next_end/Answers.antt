@@ -1,8 +1,13 @@
 -- The first state with output belongs to the next end.
-use Rattle.std.proofs.Common.{◌≡◌, ◌+◌, slice_index, sym, ap, subst, arith}
+use Rattle.std.proofs.Common.{◌≡◌, ◌+◌, sym, ap, subst, arith}
 use Rattle.text_automaton.specs.Automata.{IsStateAt, Outputs}
 use Rattle.text_automaton.proofs.OutputLemmas.{ends_where_reported, none_further}
 use Rattle.text_automaton.proofs.automaton.Automaton.next_end.Goals as goal
+
+pub returns-then-at-reading-clause-state : goal.returns-then-at-reading-clause-state
+returns-then-at-reading-clause-state c =
+    let at = c.first_reporting-at.result in
+    subst (IsStateAt c.args.self.now c.args.text.now (c.reads.reading.start + at + 1)) (sym c.from.ensures) (c.reads.invariant.reading.states at c.if-at-reading.true)
 
 pub returns-then-at-reading-clause-next : goal.returns-then-at-reading-clause-next
 returns-then-at-reading-clause-next c =
@@ -12,17 +17,13 @@ returns-then-at-reading-clause-next c =
     let at = c.first_reporting-at.result in
     let found = c.first_reporting-at.ensures in
     let quiet : c.self.inside.tables.quiet ≡ a.quiet = ap (λ (x : Outputs). x.quiet) c.self.view_is in
-    let here : IsStateAt a c.args.text.now (r.start + at + 1) (slice_index r.states at) = before.reading.states at c.if-at-reading.true in
-    let there : IsStateAt a c.args.text.now (r.start + at + 1) c.from.result = subst (IsStateAt a c.args.text.now (r.start + at + 1)) (sym c.from.ensures) here in
+    let there : IsStateAt a c.args.text.now (r.start + at + 1) c.from.result = returns-then-at-reading-clause-state c in
     let none = none_further a c.args.text.now r _ at before.reading found.within before.none (λ k low high. omega (arith, quiet, found.none k low high)) in
     record {
-      next = record {
-        after = omega (arith, before.after, found.after);
-        within = omega (arith, before.reading.inside, c.if-at-reading.true);
-        here = ends_where_reported a c.args.text.now (r.start + at + 1) c.from.result there (there.reporting (omega (arith, quiet, c.from.ensures, found.reporting c.if-at-reading.true)));
-        first = λ other after low. none other after (omega (arith, low));
-      };
-      state = there;
+      after = omega (arith, before.after, found.after);
+      within = omega (arith, before.reading.inside, c.if-at-reading.true);
+      here = ends_where_reported a c.args.text.now (r.start + at + 1) c.from.result there (there.reporting (omega (arith, quiet, c.from.ensures, found.reporting c.if-at-reading.true)));
+      first = λ other after low. none other after (omega (arith, low));
     }
 
 pub returns-then-text-reading-clause-next : goal.returns-then-text-reading-clause-next

@@ -6,4 +6,4 @@ use Rattle.text_search.proofs.end_finder.EndFinder.add_hits_by_automaton.Goals a
 
 pub returns-in_err-stop-clause-quiet : goal.returns-in_err-stop-clause-quiet
 returns-in_err-stop-clause-quiet c = λ none.
-    absurd (false≢true ((rw (ap (λ (w : Walk). w.literals) c.of-ends.ensures ∙ c.self.invariant.1 ∙ c.self.view_is ∙ c.requires.plan) at c.in_err-stop.ensures.quiet) none))
+    absurd (false≢true ((rw (ap (λ (w : Walk). w.literals) c.in-Some.ensures.some ∙ c.self.invariant.1 ∙ c.self.view_is ∙ c.requires.plan) at c.in_err-stop.ensures.quiet) none))
