@@ -1,18 +1,19 @@
 -- A text that stands after lines of another: the literals that end in it are the literals of the whole that end there.
-use Rattle.std.proofs.Common.{◌≡◌, ℕ, ◌+◌, ◌-◌, ◌<◌, ◌≤◌, List, [], ◌∷◌, ◌++◌, length, drop, map, All, inl, inr, refl, sym, ap, ◌∙◌, subst, append_assoc, arith}
-use Rattle.std.proofs.Math.Seq.{drop-append_seam}
-use Rattle.std.proofs.lemmas.List.{drop-append-le, length-append, length-drop, length-map, map-append}
+use Rattle.std.proofs.Common.{◌≡◌, ℕ, ◌+◌, ◌-◌, ◌<◌, ◌≤◌, List, [], ◌∷◌, ◌++◌, length, map, All, inl, inr, refl, sym, ap, ◌∙◌, subst, append_assoc, arith}
+use Rattle.std.proofs.lemmas.List.{length-append, length-map, map-append}
 use Rattle.std.proofs.lemmas.Option.{get_or_from_slice_get, slice_get_within}
+use Rattle.lit_base.specs.declared.fold.Fold.{Fold}
+use Rattle.lit_base.specs.declared.fold.Fold.TheVariants.{No, Ascii}
 use Rattle.lit_base.specs.Folding.{folded, folded_text}
 use Rattle.lit_base.specs.Lines.{IsOnePiece, open_rest}
 use Rattle.lit_base.specs.Literals.{Literals}
 use Rattle.lit_base.specs.Occurrences.{HasEnd, Occurs}
 use Rattle.lit_base.specs.NextEnds.{IsNextEnd, NoEndAfter}
 use Rattle.lit_base.proofs.EndedLemmas.{open_rest-append, open_rest-newline}
+use Rattle.text_ends.proofs.Occurring.{occurs_after, occurs_in_rest}
 use Rattle.text_lines.specs.HitLines.{IsAfterLines, IsFirstHitLine}
 use Rattle.text_lines.proofs.Crossing.{crossing, ends_in_newline}
-use Rattle.text_lines.proofs.HitLineLemmas.{map-newline}
-use Rattle.text_lines.proofs.LiteralParts.{occurs-parts, slice-occurs}
+use Rattle.text_lines.proofs.LiteralParts.{occurs-parts}
 use Rattle.text_lines.proofs.Newlines.{open_rest-closed, open_rest-nil}
 
 -- each text stands after nothing
@@ -37,22 +38,25 @@ hit-closed {l} {rest} {missed} {line} {after} hit closed =
 pub after-len : (whole text : List ℕ) (after : IsAfterLines whole text) → length whole ≡ length after.prefix + length text
 after-len whole text after = ap length after.cut ∙ length-append after.prefix text
 
-module _ (l : Literals) (apart : All IsOnePiece l.texts) (prefix text : List ℕ) (closed : open_rest prefix ≡ []) where
-  -- a literal that ends in the text ends in the whole, later by the prefix's length
-  ends_in_whole : (end : ℕ) → HasEnd l text end → HasEnd l (prefix ++ text) (length prefix + end)
-  ends_in_whole end h =
-      let f = folded l.folding in
-      let o = h.1 in
-      let t = o.literal in
-      let p = occurs-parts l text h.0 end o in
-      let parts : map f (prefix ++ text) ≡ (map f prefix ++ p.before) ++ (t ++ p.after) =
-      map-append f prefix text ∙ ap (λ u. map f prefix ++ u) p.whole ∙ sym (append_assoc (map f prefix) p.before (t ++ p.after)) in
-      let at : length (map f prefix ++ p.before) + length t ≡ length prefix + end = omega (arith, length-append (map f prefix) p.before, length-map prefix f, p.at) in
-      (h.0, subst (Occurs l (prefix ++ text) h.0) at (slice-occurs l (prefix ++ text) h.0 t (map f prefix ++ p.before) p.after o.stands parts))
+-- a newline stays one
+folded-10 : (fold : Fold) → folded fold 10 ≡ 10
+folded-10 No = refl
+folded-10 Ascii = refl
 
+-- a folded text round a newline
+pub map-newline : (fold : Fold) (prefix rest : List ℕ) → folded_text fold (prefix ++ 10 ∷ rest) ≡ folded_text fold prefix ++ 10 ∷ folded_text fold rest
+map-newline fold prefix rest = map-append (folded fold) prefix (10 ∷ rest) ∙ ap (λ b. folded_text fold prefix ++ b ∷ folded_text fold rest) (folded-10 fold)
+
+-- where no literal holds a newline, the one that ends at a position holds none
+pub one-literal : (l : Literals) → All IsOnePiece l.texts → (text : List ℕ) (place end : ℕ) (o : Occurs l text place end) → IsOnePiece o.literal
+one-literal l apart text place end o =
+    let t = o.literal in
+    subst IsOnePiece (get_or_from_slice_get l.texts place t t o.stands) (apart place t (slice_get_within l.texts place t o.stands))
+
+module _ (l : Literals) (apart : All IsOnePiece l.texts) (prefix text : List ℕ) (closed : open_rest prefix ≡ []) where
   -- what ends after the prefix begins after it, since a newline stands between
-  begins_after : (a t b : List ℕ) (end : ℕ) → IsOnePiece t → 0 < end → length a + length t ≡ length prefix + end → folded_text l.folding (prefix ++ text) ≡ a ++ (t ++ b) → length prefix ≤ length a
-  begins_after a t b end single some at parts = elim (ends_in_newline prefix closed) [
+  begins_after : (a t b : List ℕ) → IsOnePiece t → length prefix < length a + length t → folded_text l.folding (prefix ++ text) ≡ a ++ (t ++ b) → length prefix ≤ length a
+  begins_after a t b single late parts = elim (ends_in_newline prefix closed) [
     | inl none ↦ let zero : length prefix ≡ 0 = ap length none in omega (arith, zero)
     | inr w ↦
         let f = folded l.folding in
@@ -61,27 +65,17 @@ module _ (l : Literals) (apart : All IsOnePiece l.texts) (prefix text : List ℕ
         let long : length prefix ≡ length w.0 + 1 = ap length w.1 ∙ length-append w.0 (10 ∷ []) in
         let short : length (map f w.0) ≡ length w.0 = length-map w.0 f in
         elim (crossing (map f w.0) (map f text) a t b single same) [
-          | inl before ↦ absurd (omega (arith, before, long, short, at, some))
+          | inl before ↦ absurd (omega (arith, before, long, short, late))
           | inr after ↦ omega (arith, after, long, short)
         ]
   ]
 
   -- so a literal that ends in the whole after the prefix ends in the text
-  ends_in_text : (end : ℕ) → 0 < end → HasEnd l (prefix ++ text) (length prefix + end) → HasEnd l text end
+  pub ends_in_text : (end : ℕ) → 0 < end → HasEnd l (prefix ++ text) (length prefix + end) → HasEnd l text end
   ends_in_text end some h =
-      let f = folded l.folding in
-      let o = h.1 in
-      let t = o.literal in
-      let p = occurs-parts l (prefix ++ text) h.0 (length prefix + end) o in
-      let inside = slice_get_within l.texts h.0 t o.stands in
-      let single : IsOnePiece t = subst IsOnePiece (get_or_from_slice_get l.texts h.0 t t o.stands) (apart h.0 t inside) in
-      let low : length prefix ≤ length p.before = begins_after p.before t p.after end single some p.at p.whole in
-      let size : length (map f prefix) ≡ length prefix = length-map prefix f in
-      let parts : map f text ≡ drop (length (map f prefix)) p.before ++ (t ++ p.after) =
-      sym (drop-append_seam (map f prefix) (map f text)) ∙ ap (drop (length (map f prefix))) (sym (map-append f prefix text) ∙ p.whole)
-      ∙ drop-append-le (length (map f prefix)) p.before (t ++ p.after) (omega (arith, low, size)) in
-      let at : length (drop (length (map f prefix)) p.before) + length t ≡ end = omega (arith, length-drop (length (map f prefix)) p.before, size, p.at, low) in
-      (h.0, subst (Occurs l text h.0) at (slice-occurs l text h.0 t (drop (length (map f prefix)) p.before) p.after o.stands parts))
+      let p = occurs-parts l (prefix ++ text) h.0 (length prefix + end) h.1 in
+      let low = begins_after p.before h.1.literal p.after (one-literal l apart (prefix ++ text) h.0 (length prefix + end) h.1) (omega (arith, p.at, some)) p.whole in
+      (h.0, occurs_in_rest l prefix text h.0 end h.1 (omega (arith, low, p.at)))
 
   -- the next end of the whole after the prefix is the first of the text
   next_in_text : (end : ℕ) → IsNextEnd l (prefix ++ text) (length prefix) end → IsNextEnd l text 0 (end - length prefix)
@@ -91,11 +85,11 @@ module _ (l : Literals) (apart : All IsOnePiece l.texts) (prefix text : List ℕ
         after = omega (arith, next.after);
         within = omega (arith, next.within, length-append prefix text);
         here = ends_in_text (end - length prefix) (omega (arith, next.after)) (subst (HasEnd l (prefix ++ text)) there next.here);
-        first = λ other some low h. next.first (length prefix + other) (omega (arith, some)) (omega (arith, low)) (ends_in_whole other h);
+        first = λ other some low h. next.first (length prefix + other) (omega (arith, some)) (omega (arith, low)) (h.0, occurs_after l prefix text h.0 other h.1);
       }
 
   none_in_text : NoEndAfter l (prefix ++ text) (length prefix) → NoEndAfter l text 0
-  none_in_text none = λ end some h. none (length prefix + end) (omega (arith, some)) (ends_in_whole end h)
+  none_in_text none = λ end some h. none (length prefix + end) (omega (arith, some)) (h.0, occurs_after l prefix text h.0 end h.1)
 
 -- the same of any whole in which the text stands after lines
 pub rest-next : (l : Literals) → All IsOnePiece l.texts → (whole text : List ℕ) (from end : ℕ) → IsAfterLines whole text → from + length text ≡ length whole → IsNextEnd l whole from end → IsNextEnd l text 0 (end - from)

@@ -21,27 +21,6 @@ crossing (y ∷ u) v (x ∷ a) t b one e =
     let rest : u ++ 10 ∷ v ≡ a ++ (t ++ b) = (cc) in
     elim (crossing u v a t b one rest) [ inl before ↦ inl (omega (arith, before)) | inr after ↦ inr (omega (arith, after)) ]
 
--- the prefix of a text
-prefix_slice : (ys zs t b : List ℕ) → ys ++ zs ≡ t ++ b → length t ≤ length ys → (rest : List ℕ) × (ys ≡ t ++ rest)
-prefix_slice ys zs [] b e le = (ys, refl)
-prefix_slice [] zs (c ∷ t) b e le = absurd (omega (arith, le))
-prefix_slice (y ∷ ys) zs (c ∷ t) b e le =
-    let w = prefix_slice ys zs t b (cc) (omega (arith, le)) in
-    let same : y ≡ c = (cc) in
-    (w.0, ap (λ l. y ∷ l) w.1 ∙ ap (λ x. x ∷ (t ++ w.0)) same)
-
--- a slice that lies in a prefix is a slice of it
-inner_slice : (ys zs a t b : List ℕ) → ys ++ zs ≡ a ++ (t ++ b) → length a + length t ≤ length ys → HasSubslice ys t
-inner_slice ys zs [] t b e le = let w = prefix_slice ys zs t b e (omega (arith, le)) in ([], w.0, w.1)
-inner_slice [] zs (x ∷ a) t b e le = absurd (omega (arith, le))
-inner_slice (y ∷ ys) zs (x ∷ a) t b e le = let w = inner_slice ys zs a t b (cc) (omega (arith, le)) in (y ∷ w.0, w.1, ap (λ l. y ∷ l) w.2)
-
--- and a slice that lies in a middle part is a slice of that part
-pub middle_slice : (xs ys zs a t b : List ℕ) → xs ++ (ys ++ zs) ≡ a ++ (t ++ b) → length xs ≤ length a → length a + length t ≤ length xs + length ys → HasSubslice ys t
-middle_slice [] ys zs a t b e low high = inner_slice ys zs a t b e (omega (arith, high))
-middle_slice (x ∷ xs) ys zs [] t b e low high = absurd (omega (arith, low))
-middle_slice (x ∷ xs) ys zs (y ∷ a) t b e low high = middle_slice xs ys zs a t b (cc) (omega (arith, low)) (omega (arith, high))
-
 -- a text of ended lines is empty or ends in a newline: a byte in front
 closed_byte : (b : ℕ) (bs : List ℕ) (ps : List (List ℕ)) → pieces bs ≡ ps → last_piece (onto_first b ps) ≡ [] → last_piece ps ≡ []
 closed_byte b bs [] e closed = (cc)

@@ -5,29 +5,20 @@ use Rattle.std.proofs.Math.Seq.{drop-append_seam, take-append_seam}
 use Rattle.std.proofs.lemmas.List.{append_cancel_left, map-append, length-map, length-append, length-take, length-drop}
 use Rattle.std.proofs.lemmas.List.Elements.{All-append, All-weaker}
 use Rattle.std.proofs.lemmas.Option.{get_or_from_slice_get, slice_get_within}
-use Rattle.lit_base.specs.declared.fold.Fold.{Fold}
-use Rattle.lit_base.specs.declared.fold.Fold.TheVariants.{No, Ascii}
-use Rattle.lit_base.specs.Folding.{folded, folded_text}
+use Rattle.lit_base.specs.Folding.{folded}
 use Rattle.lit_base.specs.Lines.{IsOnePiece, ended_lines, open_rest}
 use Rattle.lit_base.specs.Literals.{Literals, IsNormal}
-use Rattle.lit_base.specs.Selected.{Matches, matches}
+use Rattle.lit_base.specs.Selected.{matches}
 use Rattle.lit_base.proofs.MatchLemmas.{matching}
-use Rattle.lit_base.specs.Occurrences.{HasEnd}
+use Rattle.lit_base.specs.Occurrences.{HasEnd, Occurs}
 use Rattle.lit_base.specs.NextEnds.{IsNextEnd, NoEndAfter}
 use Rattle.text_lines.specs.Cutting.{IsFirstLine, IsLastCut}
 use Rattle.text_lines.specs.HitLines.{AllMiss, IsFirstHitLine}
-use Rattle.text_lines.proofs.Crossing.{crossing, ended_lines-slices, ends_in_newline, middle_slice}
-use Rattle.text_lines.proofs.LiteralParts.{not_passed, occurs-parts, own_folded, own_some, own, slice-occurs}
+use Rattle.text_ends.proofs.Occurring.{occurs_after, occurs_in_prefix, occurs_of_prefix}
+use Rattle.text_lines.proofs.AfterLines.{ends_in_text, map-newline, one-literal}
+use Rattle.text_lines.proofs.Crossing.{crossing, ended_lines-slices}
+use Rattle.text_lines.proofs.LiteralParts.{end-from_match, match-from_end, not_passed, occurs-parts, own_some}
 use Rattle.text_lines.proofs.Newlines.{one-shorter, open_rest-ended, open_rest-nil}
-
--- a newline stays one
-folded-10 : (fold : Fold) → folded fold 10 ≡ 10
-folded-10 No = refl
-folded-10 Ascii = refl
-
--- a folded text round a newline
-pub map-newline : (fold : Fold) (prefix rest : List ℕ) → folded_text fold (prefix ++ 10 ∷ rest) ≡ folded_text fold prefix ++ 10 ∷ folded_text fold rest
-map-newline fold prefix rest = map-append (folded fold) prefix (10 ∷ rest) ∙ ap (λ b. folded_text fold prefix ++ b ∷ folded_text fold rest) (folded-10 fold)
 
 -- a text before the end of its first literal
 split_prefix : (text prefix tail missed head : List ℕ) (end : ℕ) → prefix ≡ take (end - 1) text → tail ≡ drop (end - 1) text → IsLastCut prefix missed head → text ≡ missed ++ (head ++ tail)
@@ -52,35 +43,15 @@ joined_line head tail ending after rest line one last is_rest is_line =
     }
 
 module _ (l : Literals) (normal : IsNormal l) where
-  -- a line that holds a literal has it where it stands in a text
-  end-in : (text line p q : List ℕ) → text ≡ p ++ (line ++ q) → Matches l.folding false l.texts line → (end : ℕ) × (0 < end) × (end ≤ length p + length line) × HasEnd l text end
-  end-in text line p q whole w =
-      let f = folded l.folding in
-      let t = w.1 in
-      let same = own_folded l normal line w.0 t w.2 w.3 in
-      let a = w.4.0 in
-      let b = w.4.1 in
-      let inner : map f line ≡ a ++ (t ++ b) = w.4.2 ∙ ap (λ u. a ++ (u ++ b)) same in
-      let parts : map f text ≡ (map f p ++ a) ++ (t ++ (b ++ map f q)) =
-      ap (map f) whole ∙ map-append f p (line ++ q) ∙ ap (λ u. map f p ++ u) (map-append f line q ∙ ap (λ u. u ++ map f q) inner)
-      ∙ ap (λ u. map f p ++ u) (append_assoc a (t ++ b) (map f q) ∙ ap (λ u. a ++ u) (append_assoc t b (map f q)))
-      ∙ sym (append_assoc (map f p) a (t ++ (b ++ map f q))) in
-      let long : length (map f p ++ a) ≡ length p + length a = length-append (map f p) a ∙ ap (λ n. n + length a) (length-map p f) in
-      let size : length line ≡ length a + (length t + length b) = sym (length-map line f) ∙ ap length inner ∙ length-append a (t ++ b) ∙ ap (λ n. length a + n) (length-append t b) in (
-        length (map f p ++ a) + length t,
-        omega (arith, own_some l normal line w.0 t w.2 w.3),
-        omega (arith, long, size),
-        (w.0, slice-occurs l text w.0 t (map f p ++ a) (b ++ map f q) (own l normal line w.0 t w.2 w.3) parts),
-      )
-
   -- where no literal ends in a prefix of a text, no line that ends in it holds one
   pub misses-prefix : (text prefix rest : List ℕ) → text ≡ prefix ++ rest → ((end : ℕ) → 0 < end → end ≤ length prefix → ¬ HasEnd l text end) → AllMiss l prefix
   misses-prefix text prefix rest whole none =
       All-weaker (HasSubslice prefix) (λ line. matches l.folding false l.texts line ≡ false) (λ line s. sym (not_passed (matches l.folding false l.texts line) (λ e.
       let parts : text ≡ s.0 ++ (line ++ (s.1 ++ rest)) = whole ∙ ap (λ u. u ++ rest) s.2 ∙ append_assoc s.0 (line ++ s.1) rest ∙ ap (λ u. s.0 ++ u) (append_assoc line s.1 rest) in
       let size : length prefix ≡ length s.0 + (length line + length s.1) = ap length s.2 ∙ length-append s.0 (line ++ s.1) ∙ ap (λ n. length s.0 + n) (length-append line s.1) in
-      let w = end-in text line s.0 (s.1 ++ rest) parts ((matching.matches l.folding false l.texts line).0 e) in
-      none w.0 w.1 (omega (arith, w.2, size)) w.3))) (ended_lines prefix) (ended_lines-slices prefix)
+      let w = end-from_match l normal line ((matching.matches l.folding false l.texts line).0 e) in
+      let o = occurs_after l s.0 (line ++ (s.1 ++ rest)) w.2.0 w.0 (occurs_of_prefix l line (s.1 ++ rest) w.2.0 w.0 w.2.1) in
+      none (length s.0 + w.0) (omega (arith, w.1)) (omega (arith, w.2.1.ends, size)) (w.2.0, subst (λ u. Occurs l u w.2.0 (length s.0 + w.0)) (sym parts) o)))) (ended_lines prefix) (ended_lines-slices prefix)
 
   -- where none ends in the text, no line of it holds one
   pub misses-all : (text : List ℕ) → NoEndAfter l text 0 → AllMiss l text
@@ -95,44 +66,23 @@ module _ (l : Literals) (normal : IsNormal l) where
       | inr after ↦ absurd (omega (arith, after))
     ]
 
-    -- and the line before begins before the literal
-    low_end : (a t b : List ℕ) → IsOnePiece t → length a + length t ≡ end → folded_text l.folding text ≡ a ++ (t ++ b) → length missed ≤ length a
-    low_end a t b single at parts = elim (ends_in_newline missed closed) [
-      | inl none ↦ let zero : length missed ≡ 0 = ap length none in omega (arith, zero)
-      | inr w ↦
-          let f = folded l.folding in
-          let cut : text ≡ w.0 ++ 10 ∷ (line ++ 10 ∷ rest) = whole ∙ ap (λ m. m ++ (line ++ 10 ∷ rest)) w.1 ∙ append_assoc w.0 (10 ∷ []) (line ++ 10 ∷ rest) in
-          let same : map f w.0 ++ 10 ∷ map f (line ++ 10 ∷ rest) ≡ a ++ (t ++ b) = sym (map-newline l.folding w.0 (line ++ 10 ∷ rest)) ∙ sym (ap (map f) cut) ∙ parts in
-          let long : length missed ≡ length w.0 + 1 = ap length w.1 ∙ length-append w.0 (10 ∷ []) in
-          let short : length (map f w.0) ≡ length w.0 = length-map w.0 f in
-          elim (crossing (map f w.0) (map f (line ++ 10 ∷ rest)) a t b single same) [
-            | inl before ↦ absurd (omega (arith, before, long, short, at, size))
-            | inr after ↦ omega (arith, after, long, short)
-          ]
-    ]
-
     -- so it is a slice of the line
     pub hit-line : HasEnd l text end → matches l.folding false l.texts line ≡ true
     hit-line h =
         let f = folded l.folding in
-        let o = h.1 in
+        let e = length head + 1 in
+        let there : end ≡ length missed + e = omega (arith, size) in
+        let later = ends_in_text l apart missed (line ++ 10 ∷ rest) closed e (omega arith) (subst (HasEnd l (missed ++ (line ++ 10 ∷ rest))) there (subst (λ u. HasEnd l u end) whole h)) in
+        let o = later.1 in
         let t = o.literal in
-        let p = occurs-parts l text h.0 end o in
-        let inside = slice_get_within l.texts h.0 t o.stands in
-        let here = get_or_from_slice_get l.texts h.0 t t o.stands in
-        let single : IsOnePiece t = subst IsOnePiece here (apart h.0 t inside) in
-        let low : length missed ≤ length p.before = low_end p.before t p.after single p.at p.whole in
-        let cut : map f missed ++ (map f line ++ (10 ∷ map f rest)) ≡ p.before ++ (t ++ p.after) =
-        ap (λ u. map f missed ++ u) (sym (map-newline l.folding line rest)) ∙ sym (map-append f missed (line ++ 10 ∷ rest)) ∙ sym (ap (map f) whole) ∙ p.whole in
-        let high : length p.before + length t ≤ length missed + length line =
-        elim (crossing (map f missed ++ map f line) (map f rest) p.before t p.after single (append_assoc (map f missed) (map f line) (10 ∷ map f rest) ∙ cut)) [
-          | inl before ↦ omega (arith, before, length-append (map f missed) (map f line), length-map missed f, length-map line f)
-          | inr after ↦ absurd (omega (arith, after, length-append (map f missed) (map f line), length-map missed f, length-map line f, p.at, size, line_end, own_some l normal line h.0 t inside here))
+        let p = occurs-parts l (line ++ 10 ∷ rest) later.0 e o in
+        let some = own_some l normal line later.0 t (slice_get_within l.texts later.0 t o.stands) (get_or_from_slice_get l.texts later.0 t t o.stands) in
+        let high : e ≤ length line =
+        elim (crossing (map f line) (map f rest) p.before t p.after (one-literal l apart (line ++ 10 ∷ rest) later.0 e o) (sym (map-newline l.folding line rest) ∙ p.whole)) [
+          | inl before ↦ omega (arith, before, length-map line f, p.at)
+          | inr after ↦ absurd (omega (arith, after, length-map line f, p.at, line_end, some))
         ] in
-        let slice : HasSubslice (map f line) t = middle_slice (map f missed) (map f line) (10 ∷ map f rest) p.before t p.after cut
-        (omega (arith, low, length-map missed f)) (omega (arith, high, length-map missed f, length-map line f)) in
-        let same = own_folded l normal line h.0 t inside here in
-        (matching.matches l.folding false l.texts line).1 (h.0, t, inside, here, (slice.0, slice.1, slice.2 ∙ ap (λ u. slice.0 ++ (u ++ slice.1)) (sym same)))
+        (matching.matches l.folding false l.texts line).1 (match-from_end l normal line e (later.0, occurs_in_prefix l line (10 ∷ rest) later.0 e high o))
 
   -- the line that holds the first end is the first that holds a literal: the bytes before that end, and up to the next
   -- newline

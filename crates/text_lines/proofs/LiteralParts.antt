@@ -1,13 +1,15 @@
 -- Where a literal stands in a folded text: what is before it, and what is after it.
 use Rattle.std.proofs.Common.{◌≡◌, ℕ, ◌+◌, ◌-◌, ◌<◌, Bool, true, false, List, ◌++◌, length, take, drop, get_or, map, Some, refl, sym, ap, ◌∙◌, subst, arith, take-append-drop}
 use Rattle.std.specs.List.{slice_get}
+use Rattle.std.specs.Str.Iter.{HasSubslice}
 use Rattle.std.proofs.Math.Seq.{drop-append_seam}
 use Rattle.std.proofs.lemmas.List.{map-append, take-map, drop-map, length-map, length-append, take-append-le, take_all, length-take}
-use Rattle.std.proofs.lemmas.Option.{slice_get-get_or}
+use Rattle.std.proofs.lemmas.Option.{get_or_from_slice_get, slice_get-get_or, slice_get_within}
 use Rattle.lit_base.specs.declared.fold.Fold.{Fold}
 use Rattle.lit_base.specs.Folding.{folded, folded_text}
 use Rattle.lit_base.specs.Literals.{Literals, IsNormal}
-use Rattle.lit_base.specs.Occurrences.{Occurs}
+use Rattle.lit_base.specs.Occurrences.{HasEnd, Occurs}
+use Rattle.lit_base.specs.Selected.{Matches}
 
 -- a text, folded, round a literal that ends in it
 pub record Parts (folding : Fold) (text t : List ℕ) (end : ℕ) : Type 0 where
@@ -31,6 +33,10 @@ occurs-parts l text place end o =
       whole = ap (map f) parts ∙ map-append f (take start text) (take size rest ++ drop size rest)
           ∙ ap (λ t. map f (take start text) ++ t) (map-append f (take size rest) (drop size rest) ∙ ap (λ t. t ++ map f (drop size rest)) o.bytes);
     }
+
+-- a literal that ends in a text is a slice of it
+occurs-slice : (l : Literals) (text : List ℕ) (place end : ℕ) (o : Occurs l text place end) → HasSubslice (folded_text l.folding text) o.literal
+occurs-slice l text place end o = let p = occurs-parts l text place end o in (p.before, p.after, p.whole)
 
 -- the middle of three parts
 middle : (a t b : List ℕ) → take (length t) (drop (length a) (a ++ (t ++ b))) ≡ t
@@ -71,3 +77,24 @@ module _ (l : Literals) (normal : IsNormal l) (line : List ℕ) where
 
   pub own_some : (place : ℕ) (t : List ℕ) → place < length l.texts → get_or l.texts place t ≡ t → 0 < length t
   own_some place t inside here = subst (λ u. 0 < length u) here (normal.nonempty place t inside)
+
+  -- a line that matches a literal has an end of one
+  pub end-from_match : Matches l.folding false l.texts line → (end : ℕ) × (0 < end) × HasEnd l line end
+  end-from_match w =
+      let t = w.1 in
+      let same = own_folded w.0 t w.2 w.3 in
+      let a = w.4.0 in
+      let b = w.4.1 in
+      let parts : folded_text l.folding line ≡ a ++ (t ++ b) = w.4.2 ∙ ap (λ u. a ++ (u ++ b)) same in
+      (length a + length t, omega (arith, own_some w.0 t w.2 w.3), (w.0, slice-occurs l line w.0 t a b (own w.0 t w.2 w.3) parts))
+
+  -- and the other way
+  pub match-from_end : (end : ℕ) → HasEnd l line end → Matches l.folding false l.texts line
+  match-from_end end h =
+      let o = h.1 in
+      let t = o.literal in
+      let inside = slice_get_within l.texts h.0 t o.stands in
+      let here = get_or_from_slice_get l.texts h.0 t t o.stands in
+      let slice = occurs-slice l line h.0 end o in
+      let same = own_folded h.0 t inside here in
+      (h.0, t, inside, here, (slice.0, slice.1, slice.2 ∙ ap (λ u. slice.0 ++ (u ++ slice.1)) (sym same)))

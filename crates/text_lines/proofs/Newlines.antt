@@ -19,11 +19,9 @@ is_newline text k d inside e = eq-eqb (get_or text k 0) 10 (get_or_default text 
 pub open_rest-closed : (text : List ℕ) → open_rest (text ++ 10 ∷ []) ≡ []
 open_rest-closed text = open_rest-append text (10 ∷ []) ∙ open_rest-newline (open_rest text) [] (open_rest-apart text) ∙ open_rest-none [] (λ k d inside. absurd (omega arith))
 
--- up to the last newline, with it, nothing is open
-pub last-closed : (text : List ℕ) (at : ℕ) → IsLastByte (is_byte 10) text (Some at) → open_rest (take (at + 1) text) ≡ []
-last-closed text at h =
-    let here : get_or text at 0 ≡ 10 = eqb-true _ _ h.1 in
-    ap open_rest (take_more text at 0 h.0.high ∙ ap (λ b. take at text ++ b ∷ []) here) ∙ open_rest-closed (take at text)
+-- up to a newline, with it, nothing is open
+pub closed-at : (text : List ℕ) (at : ℕ) → at < length text → get_or text at 0 ≡ 10 → open_rest (take (at + 1) text) ≡ []
+closed-at text at inside newline = ap open_rest (take_more text at 0 inside ∙ ap (λ b. take at text ++ b ∷ []) newline) ∙ open_rest-closed (take at text)
 
 -- after the last newline there is none
 pub after-one : (text : List ℕ) (at : ℕ) → IsLastByte (is_byte 10) text (Some at) → IsOnePiece (drop (at + 1) text)
@@ -46,38 +44,11 @@ open_rest-ended ended rest closed one = open_rest-append ended rest ∙ ap (λ r
 pub one-append : (prefix back : List ℕ) → IsOnePiece prefix → IsOnePiece back → IsOnePiece (prefix ++ back)
 one-append prefix back h k = All-append (λ b. b ≢ 10) prefix back h k
 
--- a text cut after its last newline
-pub last-cut : (text ended rest : List ℕ) (at : ℕ) → IsLastByte (is_byte 10) text (Some at) → ended ≡ take (at + 1) text → rest ≡ drop (at + 1) text → IsLastCut text ended rest
-last-cut text ended rest at h prefix back = record {
-  whole = sym (take-append-drop (at + 1) text) ∙ ap (λ b. b ++ drop (at + 1) text) (sym prefix) ∙ ap (λ r. ended ++ r) (sym back);
-  closed = ap open_rest prefix ∙ last-closed text at h;
-  one = subst IsOnePiece (sym back) (after-one text at h);
-}
-
--- it is cut so by the number of bytes after it
-pub last-cut-after : (text ended rest : List ℕ) (after : ℕ) → after < length text → IsOnePiece (drop (length text - after) text) → get_or text (length text - after - 1) 0 ≡ 10
-    → ended ≡ take (length text - after) text → rest ≡ drop (length text - after) text → IsLastCut text ended rest
-last-cut-after text ended rest after few one newline prefix back =
-    let at = length text - after - 1 in
-    let cut : length text - after ≡ at + 1 = omega (arith, few) in
-    record {
-      whole = sym (take-append-drop (length text - after) text) ∙ ap (λ b. b ++ drop (length text - after) text) (sym prefix) ∙ ap (λ r. ended ++ r) (sym back);
-      closed = ap open_rest (prefix ∙ ap (λ n. take n text) cut ∙ take_more text at 0 (omega (arith, few)) ∙ ap (λ b. take at text ++ b ∷ []) newline) ∙ open_rest-closed (take at text);
-      one = subst IsOnePiece (sym back) one;
-    }
-
--- and one without a newline
-pub last-cut-none : (text ended rest : List ℕ) → IsLastByte (is_byte 10) text None → ended ≡ [] → rest ≡ text → IsLastCut text ended rest
-last-cut-none text ended rest h prefix back = record {
-  whole = ap (λ b. b ++ text) (sym prefix) ∙ ap (λ r. ended ++ r) (sym back);
-  closed = ap open_rest prefix ∙ open_rest-nil;
-  one = subst IsOnePiece (sym back) (none_last text h);
-}
-
-pub last-cut-one : (text ended rest : List ℕ) → IsOnePiece text → ended ≡ [] → rest ≡ text → IsLastCut text ended rest
-last-cut-one text ended rest one prefix back = record {
-  whole = ap (λ b. b ++ text) (sym prefix) ∙ ap (λ r. ended ++ r) (sym back);
-  closed = ap open_rest prefix ∙ open_rest-nil;
+-- a text cut where nothing is open before the cut, and no newline stands after it
+pub last-cut : (text ended rest : List ℕ) (at : ℕ) → ended ≡ take at text → rest ≡ drop at text → open_rest (take at text) ≡ [] → IsOnePiece (drop at text) → IsLastCut text ended rest
+last-cut text ended rest at prefix back closed one = record {
+  whole = sym (take-append-drop at text) ∙ ap (λ b. b ++ drop at text) (sym prefix) ∙ ap (λ r. ended ++ r) (sym back);
+  closed = ap open_rest prefix ∙ closed;
   one = subst IsOnePiece (sym back) one;
 }
 
