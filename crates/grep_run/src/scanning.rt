@@ -78,9 +78,12 @@ fn numbered_picker_for<'a>(request: &Request<'a>, finder: Option<EndFinder>) -> 
     ensures plan { result.plan ≡ request.now.patterns.now.plan }
     ensures learns { result.learns ≡ is_some finder }
 {
-    let picker = plain_picker_for(request);
+    let mut picker = plain_picker_for(request);
     match finder {
-        Some(finder) => picker.learning_by(finder),
+        Some(finder) => {
+            picker.learn_by(finder);
+            picker
+        }
         None => picker,
     }
 }

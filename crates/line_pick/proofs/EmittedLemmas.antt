@@ -21,12 +21,6 @@ numbered-cons test before line lines = elim (test line) as (λ b. cond b ((befor
   | false ↦ refl
 ]
 
-pub numbered-yes : (test : List ℕ → Bool) (before : ℕ) (line : List ℕ) → test line ≡ true → numbered test before (line ∷ []) ≡ (before + 1, line) ∷ []
-numbered-yes test before line passes = ap (λ b. cond b ((before + 1, line) ∷ []) []) passes
-
-pub numbered-no : (test : List ℕ → Bool) (before : ℕ) (line : List ℕ) → test line ≡ false → numbered test before (line ∷ []) ≡ []
-numbered-no test before line fails = ap (λ b. cond b ((before + 1, line) ∷ []) []) fails
-
 -- one line is numbered by what a test says of it
 pub numbered-one : (test : List ℕ → Bool) (before : ℕ) (line : List ℕ) {selected : Bool} → selected ≡ test line → numbered (λ _. selected) before (line ∷ []) ≡ numbered test before (line ∷ [])
 numbered-one test before line is = ap (λ b. cond b ((before + 1, line) ∷ []) []) is
@@ -134,19 +128,6 @@ pub OnOk-any : {T E P : Type 0} (r : Result T E) → P → OnOk r P
 OnOk-any (Ok x) p = p
 OnOk-any (Err e) p = tt
 
--- one of the two was answered
-pub either : {T E P Q : Type 0} (r : Result T E) → OnOk r P → OnErr r Q → P ⊎ Q
-either (Ok x) p q = inl p
-either (Err e) p q = inr q
-
--- a line that is selected, and a line that is not
-module _ {S : Type 0} {takes : S → ℕ → List ℕ → Result Next Fault → S → Type 0} (test : List ℕ → Bool) (before : ℕ) (line : List ℕ) where
-  pub Emitted-selected : {s t : S} (answer : Result Next Fault) → test line ≡ true → takes s (before + 1) line answer t → Emitted takes s (numbered test before (line ∷ [])) answer t
-  Emitted-selected {s} {t} answer passes h = subst (λ ls. Emitted takes s ls answer t) (sym (numbered-yes test before line passes)) (Emitted-one answer h)
-
-  pub Emitted-skipped : {s : S} → test line ≡ false → Emitted takes s (numbered test before (line ∷ [])) (Ok More) s
-  Emitted-skipped {s} fails = subst (λ ls. Emitted takes s ls (Ok More) s) (sym (numbered-no test before line fails)) NoneLeft
-
 -- lines that are emitted from one state on are emitted from an earlier one
 pub record EmittedOn {S : Type 0} (takes : S → ℕ → List ℕ → Result Next Fault → S → Type 0) (s : S) (lines : List (ℕ × List ℕ)) (t : S) (rest : List (ℕ × List ℕ)) : Type 0 where
   pub go : (answer : Result Next Fault) (u : S) → Emitted takes t rest answer u → Emitted takes s lines answer u
@@ -163,15 +144,6 @@ module _ (test : List ℕ → Bool) (before : ℕ) (text line rest : List ℕ) (
   pub count-first : length (ended_lines text) ≡ suc (length (ended_lines rest))
   count-first = ap (λ t. length (ended_lines t)) cut.whole ∙ ap length (ended_lines-newline line rest cut.one)
 
-module _ {S : Type 0} {takes : S → ℕ → List ℕ → Result Next Fault → S → Type 0} (test : List ℕ → Bool) (before : ℕ) (text line rest : List ℕ) (cut : IsFirstLine text line rest) where
-  -- after a line that was taken
-  pub EmittedOn-more : {s t u : S} {whole : List (ℕ × List ℕ)} → EmittedOn takes s whole t (numbered test before (ended_lines text)) → Emitted takes t (numbered test before (line ∷ [])) (Ok More) u → EmittedOn takes s whole u (numbered test (before + 1) (ended_lines rest))
-  EmittedOn-more {t = t} p h = record { go = λ answer v later. p.go answer v (subst (λ ls. Emitted takes t ls answer v) (sym (numbered-first test before text line rest cut)) (Emitted-join h later)) }
-
-  -- at a line that was the last
-  pub EmittedOn-halted : {s t u : S} {whole : List (ℕ × List ℕ)} {answer : Result Next Fault} → EmittedOn takes s whole t (numbered test before (ended_lines text)) → Emitted takes t (numbered test before (line ∷ [])) answer u → answer ≢ Ok More → Emitted takes s whole answer u
-  EmittedOn-halted {t = t} {u = u} {answer = answer} p h halted = p.go answer u (subst (λ ls. Emitted takes t ls answer u) (sym (numbered-first test before text line rest cut)) (Emitted-halted (numbered test (before + 1) (ended_lines rest)) h halted))
-
 -- a prefix of the remaining lines was taken
 pub EmittedOn-prefix : {S : Type 0} {takes : S → ℕ → List ℕ → Result Next Fault → S → Type 0} {s t u : S} {whole all prefix rest : List (ℕ × List ℕ)} → EmittedOn takes s whole t all → all ≡ prefix ++ rest → Emitted takes t prefix (Ok More) u → EmittedOn takes s whole u rest
 EmittedOn-prefix {takes = takes} {t = t} p parts h = record { go = λ answer v later. p.go answer v (subst (λ ls. Emitted takes t ls answer v) (sym parts) (Emitted-join h later)) }
@@ -187,7 +159,3 @@ EmittedOn-end {takes = takes} {t = t} test before text one p = p.go (Ok More) t 
 
 pub count-none : (text : List ℕ) → IsOnePiece text → length (ended_lines text) ≡ 0
 count-none text one = ap length (ended_lines-none text one)
-
--- at first nothing was
-pub EmittedOn-none : {S : Type 0} (takes : S → ℕ → List ℕ → Result Next Fault → S → Type 0) (s : S) (lines : List (ℕ × List ℕ)) → EmittedOn takes s lines s lines
-EmittedOn-none takes s lines = record { go = λ answer u h. h }

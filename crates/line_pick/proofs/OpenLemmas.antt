@@ -1,7 +1,7 @@
 -- What decides an open line.
 use Rattle.std.proofs.Common.{◌≡◌, ◌≢◌, ℕ, ◌+◌, ◌-◌, ◌<◌, ◌≤◌, Bool, true, false, not, cond, eqb, min, List, [], ◌∷◌, ◌++◌, length, take, drop, map, slice_range, All, MatchOption, Option, None, Some, inl, inr, refl, sym, ap, ◌∙◌, subst, append_assoc, append-nil, take-append-drop, arith}
 use Rattle.std.specs.Cmp.{both_ways}
-use Rattle.std.specs.Option.{is_some}
+use Rattle.std.specs.Option.{is_some, option_copied}
 use Rattle.std.proofs.lemmas.Bool.{cases_lt, eqb-false, eqb-true}
 use Rattle.std.proofs.lemmas.List.{get_or-map, length-append, length-drop, length-map, length-take, take_all}
 use Rattle.std.proofs.lemmas.List.Elements.{All-append, All-cons, All-nil}
@@ -19,12 +19,13 @@ use Rattle.lit_base.proofs.PieceLemmas.{null_if}
 use Rattle.lit_plan.specs.Plans.{Plan}
 use Rattle.text_ends.proofs.Occurring.{occurs_after, occurs_in_prefix, occurs_in_rest, occurs_of_prefix}
 use Rattle.line_pick.specs.Emitting.{numbered}
-use Rattle.line_pick.specs.Matching.{fold_of, literals_of, literals_and_null}
+use Rattle.line_pick.specs.declared.matcher.Matcher.{Matcher}
+use Rattle.line_pick.specs.Matching.{fold_of, literals_of, literals_and_null, picks}
 use Rattle.line_pick.specs.OpenLines.{Decides, IsDecided, IsDecidingPart}
-use Rattle.line_pick.proofs.Literals.{end-from_match, match-from_end, own_length}
-use Rattle.text_lines.proofs.LiteralParts.{not_passed, own_some}
+use Rattle.line_pick.proofs.AroundHitLines.{picks-literals, picks-none, picks-null}
+use Rattle.line_pick.proofs.Literals.{own_length, too-long}
+use Rattle.text_lines.proofs.LiteralParts.{end-from_match, match-from_end, own_some}
 use Rattle.text_lines.proofs.Newlines.{one-append}
-use Rattle.line_pick.proofs.Patterns.{null-matches, null-misses, null-occurs, no_plan}
 
 -- a line decides itself, and what decides a text that decides a line decides the line
 pub decides-itself : (test : List ℕ → Bool) (line : List ℕ) → IsOnePiece line → Decides test line line
@@ -43,14 +44,6 @@ three-parts : (line : List ℕ) (start end : ℕ) → line ≡ take start line +
 three-parts line start end =
     sym (take-append-drop start line) ∙ ap (λ t. take start line ++ t) (sym (take-append-drop (end - start) (drop start line)))
 
--- where all patterns are shorter than a line, it is none of them
-too-long : (fold : Fold) (patterns : List (List ℕ)) (line : List ℕ) → All (λ t. length t < length line) patterns → matches fold true patterns line ≡ false
-too-long fold patterns line short = sym (not_passed (matches fold true patterns line) (λ e.
-    let w = (matching.matches fold true patterns line).0 e in
-    let fits : length w.1 < length line = subst (λ (t : List ℕ). length t < length line) w.3 (short w.0 w.1 w.2) in
-    let same : length line ≡ length w.1 = sym (length-map line (folded fold)) ∙ ap length w.4 ∙ length-map w.1 (folded fold) in
-    omega (arith, fits, same)))
-
 -- the null pattern is shorter than a line of some bytes
 null-short : (has_empty : Bool) (line : List ℕ) → 0 < length line → All (λ (t : List ℕ). length t < length line) (null_if has_empty)
 null-short true line some = All-cons (λ (t : List ℕ). length t < length line) [] [] some (All-nil (λ (t : List ℕ). length t < length line))
@@ -60,38 +53,6 @@ null-short false line some = All-nil (λ (t : List ℕ). length t < length line)
 all-short : (texts : List (List ℕ)) (has_empty : Bool) (longest : ℕ) (line : List ℕ) → All (λ t. length t ≤ longest) texts → longest < length line → All (λ t. length t < length line) (texts ++ null_if has_empty)
 all-short texts has_empty longest line bound long =
     All-append (λ t. length t < length line) texts (null_if has_empty) (λ k d inside. omega (arith, bound k d inside)) (null-short has_empty line (omega arith))
-
--- lengths that are bounded are the literals'
-pub bounded-texts : (texts : List (List ℕ)) (longest : ℕ) → All (λ len. len ≤ longest) (map length texts) → All (λ t. length t ≤ longest) texts
-bounded-texts texts longest bound k d inside =
-    omega (arith, bound k (length d) (omega (arith, inside, length-map texts (length {A = ℕ}))), get_or-map length texts k d (length d) inside)
-
-module _ (p : Option Plan) (has_empty : Bool) (longest : ℕ) (bound : All (λ t. length t ≤ longest) (literals_of p)) where
-  -- under -x a line that is longer than the longest literal matches none
-  long-none : (line : List ℕ) → longest < length line → matches (fold_of p) true (literals_and_null p has_empty) line ≡ false
-  long-none line long = too-long (fold_of p) (literals_and_null p has_empty) line (all-short (literals_of p) has_empty longest line bound long)
-
-  -- nor does what follows it help
-  long-same : (line more other : List ℕ) → longest < length line → longest < length other → matches (fold_of p) true (literals_and_null p has_empty) (line ++ more) ≡ matches (fold_of p) true (literals_and_null p has_empty) (other ++ more)
-  long-same line more other long far =
-      long-none (line ++ more) (omega (arith, long, length-append line more)) ∙ sym (long-none (other ++ more) (omega (arith, far, length-append other more)))
-
--- without -x each line holds the null pattern
-null-same : (p : Option Plan) (line other : List ℕ) (has_empty : Bool) → has_empty ≡ true → matches (fold_of p) false (literals_and_null p has_empty) line ≡ matches (fold_of p) false (literals_and_null p has_empty) other
-null-same p line other has_empty is =
-    null-matches (fold_of p) false has_empty (literals_of p) line is (null-occurs (fold_of p) line)
-    ∙ sym (null-matches (fold_of p) false has_empty (literals_of p) other is (null-occurs (fold_of p) other))
-
--- without patterns none matches
-none-same : (p : Option Plan) (whole has_empty : Bool) (line other : List ℕ) → p ≡ None → has_empty ≡ false → matches (fold_of p) whole (literals_and_null p has_empty) line ≡ matches (fold_of p) whole (literals_and_null p has_empty) other
-none-same p whole has_empty line other none is =
-    null-misses (fold_of p) whole has_empty (literals_of p) line (λ e. absurd (cc)) ∙ no_plan whole line p none
-    ∙ sym (null-misses (fold_of p) whole has_empty (literals_of p) other (λ e. absurd (cc)) ∙ no_plan whole other p none)
-
--- the literals alone decide where there is no null pattern
-pub by-literals : (whole : Bool) (line : List ℕ) (p : Option Plan) (q : Plan) (has_empty : Bool) → p ≡ Some q → has_empty ≡ false → matches (fold_of p) whole (literals_and_null p has_empty) line ≡ matches q.literals.folding whole q.literals.texts line
-by-literals whole line p q has_empty is none =
-    null-misses (fold_of p) whole has_empty (literals_of p) line (λ e. absurd (cc)) ∙ ap (λ (o : Option Plan). matches (fold_of o) whole (literals_of o) line) is
 
 -- the test of a picker, by whether a line matches
 pub tested : (invert : Bool) {m n : Bool} → m ≡ n → cond invert (not m) m ≡ cond invert (not n) n
@@ -202,82 +163,67 @@ module _ (l : Literals) (normal : IsNormal l) (longest : ℕ) (bound : All (λ l
           some = λ more. omega (arith, some, more);
         }))
 
--- a prefix of a line is a part
-prefix-same : (line : List ℕ) (start end : ℕ) → start ≡ 0 → slice_range line start end ≡ take end line
-prefix-same line start end is = ap (λ s. take (end - s) (drop s line)) is ∙ ap (λ n. take n line) (omega arith)
+-- a prefix of a line that is longer than `most` bytes, or the line itself, is a part that decides it where the test says the same after it
+pub prefix-part : (test : List ℕ → Bool) (longest most : ℕ) (line : List ℕ) (start end : ℕ) → ((more : List ℕ) → test (take end line ++ more) ≡ test (line ++ more))
+    → start ≡ 0 → end ≡ min (length line) (most + 1) → most ≤ longest → IsDecidingPart test longest line start end
+prefix-part test longest most line start end same low is few =
+    let prefix : slice_range line start end ≡ take end line = ap (λ s. take (end - s) (drop s line)) low ∙ ap (λ n. take n line) (omega arith) in
+    record {
+      same = λ more. ap (λ k. test (k ++ more)) prefix ∙ same more;
+      ordered = omega (arith, low);
+      within = omega (arith, is);
+      few = omega (arith, is, low, few);
+      some = λ some. omega (arith, is, low, some);
+    }
 
-module _ (p : Option Plan) (has_empty invert : Bool) where
-  -- the test of a picker
-  abbrev test : Bool → List ℕ → Bool
-  test whole = is_selected (fold_of p) whole invert (literals_and_null p has_empty)
+module _ (m : Matcher) (whole : m.rule.whole ≡ true) (longest : ℕ) (bound : All (λ t. length t ≤ longest) (literals_of (option_copied m.plan))) where
+  -- under -x a line that is longer than each pattern matches none
+  long-picked : (line : List ℕ) → longest < length line → picks m line ≡ cond m.rule.invert (not false) false
+  long-picked line long =
+      let p = option_copied m.plan in
+      ap (λ w. is_selected (fold_of p) w m.rule.invert (literals_and_null p m.has_empty) line) whole
+      ∙ tested m.rule.invert (too-long (fold_of p) (literals_and_null p m.has_empty) line (all-short (literals_of p) m.has_empty longest line bound long))
 
-  -- under -x two lines that are longer than each pattern are selected alike
-  long-picked : (longest : ℕ) (line other more : List ℕ) → All (λ t. length t ≤ longest) (literals_of p) → longest < length line → longest < length other → test true (line ++ more) ≡ test true (other ++ more)
-  long-picked longest line other more bound long far = tested invert (long-same p has_empty longest bound line more other long far)
-
-  pub decided-long : (whole : Bool) (longest : ℕ) (line : List ℕ) → whole ≡ true → All (λ t. length t ≤ longest) (literals_of p) → longest < length line → IsDecided (test whole) line
-  decided-long false longest line is bound long = absurd (cc)
-  decided-long true longest line is bound long = record {
+  pub decided-long : (line : List ℕ) → longest < length line → IsDecided (picks m) line
+  decided-long line long = record {
     some = omega (arith, long);
-    same = λ more. long-again more;
+    same = λ more. long-picked (line ++ more) (omega (arith, long, length-append line more)) ∙ sym (long-picked line long);
   }
-    where
-      long-again : (more : List ℕ) → test true (line ++ more) ≡ test true line
-      long-again more = tested invert (long-none p has_empty longest bound (line ++ more) (omega (arith, long, length-append line more)) ∙ sym (long-none p has_empty longest bound line long))
 
-  -- so is a prefix of it that is longer than each pattern
-  prefix-picked : (longest : ℕ) (line more : List ℕ) (end : ℕ) → All (λ t. length t ≤ longest) (literals_of p) → end ≡ min (length line) (longest + 1) → test true (take end line ++ more) ≡ test true (line ++ more)
-  prefix-picked longest line more end bound is = elim (cases_lt longest (length line)) [
-    | inl long ↦ long-picked longest (take end line) line more bound (omega (arith, is, length-take end line, long)) long
-    | inr short ↦ ap (λ t. test true (t ++ more)) (take_all end line (omega (arith, is, short)))
+  -- a prefix of it that is longer than each pattern is selected as it is
+  pub prefix-picked : (line : List ℕ) (end : ℕ) → end ≡ min (length line) (longest + 1) → (more : List ℕ) → picks m (take end line ++ more) ≡ picks m (line ++ more)
+  prefix-picked line end is more = elim (cases_lt longest (length line)) [
+    | inl long ↦ long-picked (take end line ++ more) (omega (arith, is, long, length-take end line, length-append (take end line) more)) ∙ sym (long-picked (line ++ more) (omega (arith, long, length-append line more)))
+    | inr short ↦ ap (λ t. picks m (t ++ more)) (take_all end line (omega (arith, is, short)))
   ]
 
-  pub whole-part : (whole : Bool) (longest most : ℕ) (line : List ℕ) (start end : ℕ) → whole ≡ true → longest ≡ most → All (λ t. length t ≤ longest) (literals_of p) → start ≡ 0 → end ≡ min (length line) (longest + 1)
-      → IsDecidingPart (test whole) most line start end
-  whole-part false longest most line start end wrong same bound low is = absurd (cc)
-  whole-part true longest most line start end right same bound low is = record {
-    same = λ more. ap (λ k. test true (k ++ more)) (prefix-same line start end low) ∙ prefix-picked longest line more end bound is;
-    ordered = omega (arith, low);
-    within = omega (arith, is);
-    few = omega (arith, is, low, same);
-    some = λ some. omega (arith, is, low, some);
-  }
-
+module _ (m : Matcher) where
   -- without -x all lines are selected alike where there is the null pattern, or no pattern
-  pub null-picked : (whole : Bool) → whole ≡ false → has_empty ≡ true → (a b : List ℕ) → test whole a ≡ test whole b
-  null-picked true wrong is a b = absurd (cc)
-  null-picked false right is a b = tested invert (null-same p a b has_empty is)
+  pub null-picked : m.rule.whole ≡ false → m.has_empty ≡ true → (a b : List ℕ) → picks m a ≡ picks m b
+  null-picked part is a b = sym (picks-null m a part is) ∙ picks-null m b part is
 
-  pub none-picked : (whole : Bool) → p ≡ None → has_empty ≡ false → (a b : List ℕ) → test whole a ≡ test whole b
-  none-picked whole none is a b = tested invert (none-same p whole has_empty a b none is)
+  pub none-picked : m.has_empty ≡ false → option_copied m.plan ≡ None → (a b : List ℕ) → picks m a ≡ picks m b
+  none-picked null none a b = sym (picks-none m a null none) ∙ picks-none m b null none
 
   -- without the null pattern the literals decide
-  pub literals-picked : (whole : Bool) (q : Plan) → p ≡ Some q → whole ≡ false → has_empty ≡ false → (a b : List ℕ)
-      → matches q.literals.folding false q.literals.texts a ≡ matches q.literals.folding false q.literals.texts b → test whole a ≡ test whole b
-  literals-picked true q known wrong none a b e = absurd (cc)
-  literals-picked false q known right none a b e = tested invert (by-literals false a p q has_empty known none ∙ e ∙ sym (by-literals false b p q has_empty known none))
+  pub literals-picked : (q : Plan) → option_copied m.plan ≡ Some q → m.rule.whole ≡ false → m.has_empty ≡ false → (a b : List ℕ)
+      → matches q.literals.folding false q.literals.texts a ≡ matches q.literals.folding false q.literals.texts b → picks m a ≡ picks m b
+  literals-picked q known part null a b same =
+      let by : (line : List ℕ) → is_selected q.literals.folding false m.rule.invert q.literals.texts line ≡ picks m line =
+      λ line. ap (λ w. is_selected q.literals.folding w m.rule.invert q.literals.texts line) (sym part) ∙ picks-literals m line q null known in
+      sym (by a) ∙ tested m.rule.invert same ∙ by b
 
   -- and a literal at the end of a line decides it
-  pub decided-hit : (whole : Bool) (q : Plan) (line : List ℕ) → p ≡ Some q → whole ≡ false → has_empty ≡ false → 0 < length line
-      → ((more : List ℕ) → matches q.literals.folding false q.literals.texts (line ++ more) ≡ true) → IsDecided (test whole) line
-  decided-hit whole q line known right none some stays = record {
+  pub decided-hit : (q : Plan) (line : List ℕ) → option_copied m.plan ≡ Some q → m.rule.whole ≡ false → m.has_empty ≡ false → 0 < length line
+      → ((more : List ℕ) → matches q.literals.folding false q.literals.texts (line ++ more) ≡ true) → IsDecided (picks m) line
+  decided-hit q line known part null some stays = record {
     some = some;
-    same = λ more. literals-picked whole q known right none (line ++ more) line (stays more ∙ sym (stays []) ∙ ap (matches q.literals.folding false q.literals.texts) (append-nil line));
+    same = λ more. literals-picked q known part null (line ++ more) line (stays more ∙ sym (stays []) ∙ ap (matches q.literals.folding false q.literals.texts) (append-nil line));
   }
 
 -- a line of some bytes is decided where all are selected alike
 pub decided-any : (test : List ℕ → Bool) (line : List ℕ) → 0 < length line → ((a b : List ℕ) → test a ≡ test b) → IsDecided test line
 decided-any test line some same = record { some = some; same = λ more. same (line ++ more) line }
-
--- any prefix of some bytes decides the line where the test says the same of all lines
-pub constant-part : (test : List ℕ → Bool) (longest : ℕ) (line : List ℕ) (start end most : ℕ) → ((a b : List ℕ) → test a ≡ test b) → start ≡ 0 → end ≡ min (length line) (most + 1) → most ≤ longest → IsDecidingPart test longest line start end
-constant-part test longest line start end most same low is few = record {
-  same = λ more. same (slice_range line start end ++ more) (line ++ more);
-  ordered = omega (arith, low);
-  within = omega (arith, is);
-  few = omega (arith, is, low, few);
-  some = λ some. omega (arith, is, low, some);
-}
 
 -- a part that decides by one test decides by another that says as much
 pub part-weaker : (test other : List ℕ → Bool) (longest most : ℕ) (line : List ℕ) (start end : ℕ) → ((a b : List ℕ) → test a ≡ test b → other a ≡ other b) → longest ≡ most → IsDecidingPart test longest line start end → IsDecidingPart other most line start end

@@ -1,9 +1,9 @@
 -- A plan and a null pattern select what the raw patterns select that they stand for.
-use Rattle.std.proofs.Common.{◌≡◌, ◌≢◌, ℕ, ◌+◌, Bool, true, false, not, ◌&&◌, cond, eqb, leb, List, [], ◌∷◌, ◌++◌, length, map, get_or, All, Contains, Option, None, Some, inl, inr, ◌↔◌, refl, sym, ap, ◌∙◌, subst, arith}
+use Rattle.std.proofs.Common.{◌≡◌, ◌≢◌, ℕ, zero, suc, ◌+◌, ◌<◌, Bool, true, false, not, ◌&&◌, cond, eqb, leb, List, [], ◌∷◌, ◌++◌, length, map, get_or, All, Contains, Option, None, Some, inl, inr, ◌↔◌, refl, sym, ap, ◌∙◌, subst, arith}
 use Rattle.std.specs.Cmp.{both_ways}
 use Rattle.std.specs.Str.Iter.{HasSubslice}
-use Rattle.std.proofs.lemmas.List.{get_or_default}
-use Rattle.std.proofs.lemmas.List.Elements.{All-map, Contains-append_left, Contains-append_right, Contains-append_cases}
+use Rattle.std.proofs.lemmas.List.{get_or_default, get_or-map, length-map}
+use Rattle.std.proofs.lemmas.List.Elements.{All-map, Contains-get_or, Contains-append_left, Contains-append_right, Contains-append_cases}
 use Rattle.lit_base.specs.declared.fold.Fold.{Fold}
 use Rattle.lit_base.specs.declared.fold.Fold.TheVariants.{No, Ascii}
 use Rattle.lit_base.specs.Folding.{folded, folded_text}
@@ -12,22 +12,19 @@ use Rattle.lit_base.specs.NormalForm.{IsNormalForm}
 use Rattle.lit_base.specs.Selected.{MatchesPattern, matches}
 use Rattle.lit_base.proofs.MatchLemmas.{matching}
 use Rattle.lit_base.proofs.NormalForms.{folded_text-folded_text}
-use Rattle.lit_base.proofs.Members.{In, contains_from_in, in_from_contains}
 use Rattle.lit_base.proofs.PieceLemmas.{null_if}
 use Rattle.lit_plan.specs.Plans.{Plan}
 use Rattle.line_pick.specs.Matching.{AreInLines, StandingLaw, StandsFor, fold_of, literals_of, literals_and_null}
 use Rattle.line_pick.proofs.Patterns.{null-misses, null-matches, null-occurs, null-whole, none-matches}
 
 -- an element of a mapped list comes from one of the list
-from_mapped : {X Y : Type 0} (f : X → Y) (xs : List X) (y : Y) → In y (map f xs) → (x : X) × In x xs × (f x ≡ y)
-from_mapped f [] y h = absurd h
-from_mapped f (x ∷ xs) y (inl e) = (x, inl refl, e)
-from_mapped f (x ∷ xs) y (inr h) = let w = from_mapped f xs y h in (w.0, inr w.1, w.2)
+from_mapped : (f : List ℕ → List ℕ) (xs : List (List ℕ)) (y : List ℕ) → Contains (map f xs) y → (x : List ℕ) × Contains xs x × (f x ≡ y)
+from_mapped f xs y w =
+    let inside : w.0 < length xs = omega (arith, w.1, length-map xs f) in
+    (get_or xs w.0 [], Contains-get_or xs w.0 [] inside, sym (get_or-map f xs w.0 [] y inside) ∙ w.2)
 
-to_mapped : {X Y : Type 0} (f : X → Y) (xs : List X) (x : X) → In x xs → In (f x) (map f xs)
-to_mapped f [] x h = absurd h
-to_mapped f (y ∷ ys) x (inl e) = inl (ap f e)
-to_mapped f (y ∷ ys) x (inr h) = inr (to_mapped f ys x h)
+to_mapped : (f : List ℕ → List ℕ) (xs : List (List ℕ)) (x : List ℕ) → Contains xs x → Contains (map f xs) (f x)
+to_mapped f xs x w = (w.0, omega (arith, w.1, length-map xs f), get_or-map f xs w.0 x (f x) w.1 ∙ ap f w.2)
 
 -- only a newline is folded to one
 lower_newline : (upper : Bool) (b : ℕ) → (leb 65 b && leb b 90) ≡ upper → cond upper (b + 32) b ≡ 10 → b ≡ 10
@@ -52,20 +49,21 @@ same_folded fold false line p q e h = subst (HasSubslice (folded_text fold line)
 
 -- the null pattern, where there is one
 in_null : (due : Bool) (p : List ℕ) → Contains (null_if due) p → (due ≡ true) × ([] ≡ p)
-in_null true p w = (refl, elim (in_from_contains p ([] ∷ []) w) [ inl e ↦ e | inr h ↦ absurd h ])
+in_null true p (zero, low, e) = (refl, e)
+in_null true p (suc k, low, e) = absurd (omega (arith, low))
 in_null false p w = absurd (omega (arith, w.1))
 
 null_in : (due : Bool) → due ≡ true → Contains (null_if due) []
-null_in true e = contains_from_in {X = List ℕ} [] ([] ∷ []) (inl refl)
+null_in true e = (zero, omega arith, refl)
 null_in false e = absurd (cc)
 
 module _ (fold : Fold) (raw texts : List (List ℕ)) (has_empty : Bool) (form : IsNormalForm fold raw texts) (null : (has_empty ≡ true) ↔ Contains raw []) (whole : Bool) (line : List ℕ) where
   -- the folded text of a raw pattern that is not null is a literal, and no other is one
   from_text : (t : List ℕ) → Contains texts t → MatchesPattern fold whole line t → matches fold whole raw line ≡ true
   from_text t there h =
-      let w = from_mapped (folded_text fold) raw t (in_from_contains t (map (folded_text fold) raw) ((form.members t).0 there).1) in
+      let w = from_mapped (folded_text fold) raw t ((form.members t).0 there).1 in
       let alike : folded_text fold t ≡ folded_text fold w.0 = ap (folded_text fold) (sym w.2) ∙ folded_text-folded_text fold w.0 in
-      some_pattern fold whole raw line w.0 (contains_from_in w.0 raw w.1) (same_folded fold whole line t w.0 alike h)
+      some_pattern fold whole raw line w.0 w.1 (same_folded fold whole line t w.0 alike h)
 
   from_null : (p : List ℕ) → Contains (null_if has_empty) p → MatchesPattern fold whole line p → matches fold whole raw line ≡ true
   from_null p there h =
@@ -77,7 +75,7 @@ module _ (fold : Fold) (raw texts : List (List ℕ)) (has_empty : Bool) (form : 
       some_pattern fold whole (texts ++ null_if has_empty) line [] (Contains-append_right texts (null_if has_empty) [] (null_in has_empty (null.1 there))) h
   to_text (b ∷ bs) there h =
       let t = folded_text fold (b ∷ bs) in
-      let mapped : Contains (map (folded_text fold) raw) t = contains_from_in t (map (folded_text fold) raw) (to_mapped (folded_text fold) raw (b ∷ bs) (in_from_contains (b ∷ bs) raw there)) in
+      let mapped : Contains (map (folded_text fold) raw) t = to_mapped (folded_text fold) raw (b ∷ bs) there in
       let literal : Contains texts t = (form.members t).1 (omega arith, mapped) in
       some_pattern fold whole (texts ++ null_if has_empty) line t (Contains-append_left texts (null_if has_empty) t literal) (same_folded fold whole line (b ∷ bs) t (sym (folded_text-folded_text fold (b ∷ bs))) h)
 
@@ -113,9 +111,8 @@ plan-apart : (fold : Fold) (raw : List (List ℕ)) (plan : Option Plan) (has_emp
 plan-apart fold raw plan has_empty h apart k d inside =
     let t = get_or (literals_of plan) k d in
     let there : Contains (literals_of plan) t = (k, inside, get_or_default (literals_of plan) k t d inside) in
-    let w = from_mapped (folded_text fold) raw t (in_from_contains t (map (folded_text fold) raw) ((h.form.members t).0 there).1) in
-    let r = contains_from_in w.0 raw w.1 in
-    subst IsOnePiece w.2 (folded-one fold w.0 (subst IsOnePiece r.2 (apart r.0 w.0 r.1)))
+    let w = from_mapped (folded_text fold) raw t ((h.form.members t).0 there).1 in
+    subst IsOnePiece w.2 (folded-one fold w.0 (subst IsOnePiece w.1.2 (apart w.1.0 w.0 w.1.1)))
 
 pub standing : StandingLaw
 standing = record {

@@ -8,8 +8,8 @@ use Rattle.lit_base.specs.Literals.{Literals}
 use Rattle.lit_base.specs.NormalForm.{IsNormalForm}
 use Rattle.lit_base.specs.Selected.{is_selected, matches}
 use Rattle.lit_plan.specs.Plans.{Plan}
-use Rattle.line_pick.specs.declared.line_rule.LineRule.{LineRule}
-use Rattle.line_pick.specs.declared.line_search.LineSearch.{LineSearch}
+use Rattle.line_pick.specs.declared.matcher.LineRule.{LineRule}
+use Rattle.line_pick.specs.declared.matcher.LineSearch.{LineSearch}
 use Rattle.line_pick.specs.declared.matcher.Matcher.{Matcher}
 
 -- the literals of a plan; with no plan there are none

@@ -2,7 +2,7 @@
 use Rattle.std.specs.Prelude.{ℕ, Bool, List, Option, None, Some, Result, Ok, Err}
 use Rattle.lit_plan.specs.Plans.{Plan}
 use Rattle.line_pick.specs.declared.fault.Fault.{Fault}
-use Rattle.line_pick.specs.declared.line_rule.LineRule.{LineRule}
+use Rattle.line_pick.specs.declared.matcher.LineRule.{LineRule}
 use Rattle.line_pick.specs.declared.sink.Next.{Next}
 use Rattle.line_pick.specs.declared.sink.Next.TheVariants.{More, Stop}
 use Rattle.line_pick.specs.declared.state.State.{State}

@@ -4,8 +4,6 @@
 mod emitting;
 mod fault;
 mod halt;
-mod line_rule;
-mod line_search;
 mod matcher;
 mod open_line;
 mod picker;
@@ -17,8 +15,7 @@ mod tuning;
 mod whole_lines;
 
 pub use fault::Fault;
-pub use line_rule::LineRule;
-pub use matcher::{is_in_lines, standing_law};
+pub use matcher::{LineRule, is_in_lines, standing_law};
 pub use picker::Picker;
 pub use sink::{Next, Sink};
 pub use state::State;

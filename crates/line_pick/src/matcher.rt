@@ -5,10 +5,26 @@ ghost use Rattle.lit_base.specs.Literals.{lengths};
 ghost use Rattle.lit_base.specs.Selected.{matches};
 ghost use Rattle.line_pick.specs.Matching.{StandingLaw, matched, picks};
 
-use crate::line_rule::LineRule;
-use flow_scan::{Compiled, next_end};
+use flow_scan::{Compiled, EndFinder, next_end};
 use list_index::ListIndex;
 use memchr::memchr;
+
+/// Which lines are selected, given the patterns.
+#[derive(Clone, Copy, Debug, PartialEq, Eq)]
+pub struct LineRule {
+    /// The lines that match no pattern are selected.
+    pub invert: bool,
+    /// A line matches only as a whole.
+    pub whole: bool,
+}
+
+/// What a search of lines needs: what it compares lines with, and the finder that tunes itself to the text, if there is
+/// one.
+#[derive(Debug, Drop)]
+pub(crate) struct LineSearch<'p> {
+    pub matcher: Matcher<'p>,
+    pub finder: Option<EndFinder>,
+}
 
 /// What lines are compared with: the literals of a plan, the null pattern, and the rule.
 #[derive(Clone, Copy, Debug)]
@@ -93,7 +109,9 @@ pub(crate) fn is_literal(list: &ListIndex, line: &[u8]) -> bool
     ensures { result ≡ matches list.now.folding true list.now.texts line.now }
 {
     list.normal_law();
-    if are_shorter(list, line.len()) {
+    // Most lines are longer than the longest literal: they need no search.
+    let longest = list.longest();
+    if longest < line.len() {
         return false;
     }
     let first = first_as_long(list, line.len());
@@ -117,17 +135,6 @@ fn first_as_long(list: &ListIndex, len: usize) -> usize
         }
     }
     low
-}
-
-/// Whether the longest literal is shorter than `len`, as it is for most lines: they need no search.
-fn are_shorter(list: &ListIndex, len: usize) -> bool
-    ensures { IsTrue result → (place : ℕ) → place < length list.now.texts
-        → slice_index (lengths list.now) place < len }
-{
-    if list.is_empty() {
-        return false;
-    }
-    list.longest() < len
 }
 
 /// Whether no literal of the plan holds a newline, as a picker requires.

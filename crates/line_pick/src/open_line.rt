@@ -1,15 +1,12 @@
 //! What decides a line that no newline has ended yet, where nobody sees its bytes.
 ghost use Rattle.std.specs.Prelude.{◌≡◌, ◌<◌, ◌≤◌, ◌+◌, ◌++◌, ℕ, List, All, IfSome, IsTrue, false, length, min, true};
 ghost use Rattle.std.specs.Option.{option_copied};
-ghost use Rattle.lit_base.specs.Literals.{lengths};
 ghost use Rattle.lit_base.specs.Selected.{matches};
 ghost use Rattle.line_pick.specs.Matching.{IsByPlan, literals_of, picks};
 ghost use Rattle.line_pick.specs.OpenLines.{IsDecided, IsDecidingPart, longest_in, longest_of, most_kept};
 
-use crate::line_search::LineSearch;
-use crate::matcher::Matcher;
+use crate::matcher::{LineSearch, Matcher};
 use flow_scan::{Compiled, EndFinder, TextSearch};
-use lit_base::LitList;
 use text_lines::next_end;
 
 /// A part of a text, between two positions.
@@ -75,17 +72,9 @@ fn longest_with(plan: Option<&Compiled>) -> usize
     ensures greatest { All (λ t. length t ≤ result) (literals_of (option_copied plan.entry)) }
 {
     match plan {
-        Some(compiled) => longest(compiled.list()),
+        Some(compiled) => compiled.list().longest(),
         None => 0,
     }
-}
-
-/// The length of the longest literal, if there is one, and else 0.
-fn longest(list: &LitList) -> usize
-    ensures value { result ≡ longest_of list.now }
-    ensures greatest { All (λ len. len ≤ result) (lengths list.now) }
-{
-    if list.is_empty() { 0 } else { list.longest() }
 }
 
 /// A prefix of a line that is one byte longer than the longest literal, or the line if it is no longer.
@@ -110,7 +99,7 @@ fn hit_or_tail(compiled: &Compiled, finder: &mut Option<EndFinder>, line: &[u8])
 {
     let list = compiled.list();
     list.normal_law();
-    let longest = longest(list);
+    let longest = list.longest();
     let mut search = TextSearch::new(compiled, line);
     match next_end(finder, &mut search, 0) {
         Some(end) => Part {

@@ -8,9 +8,7 @@ ghost use Rattle.line_pick.specs.declared.state.State.TheVariants.{Running};
 
 use crate::fault::Fault;
 use crate::halt::Halt;
-use crate::line_rule::LineRule;
-use crate::line_search::LineSearch;
-use crate::matcher::Matcher;
+use crate::matcher::{LineRule, LineSearch, Matcher};
 use crate::progress::Progress;
 use crate::sink::{Next, Sink};
 use crate::state::State;
@@ -112,15 +110,6 @@ impl<'p> Picker<'p> {
         ensures { result ≡ self.now.learns }
     {
         self.search.finder.is_some()
-    }
-
-    /// The same picker, whose search tunes itself by this finder from now on. The emitted lines do not depend on it.
-    pub fn learning_by(mut self, finder: EndFinder) -> Picker<'p>
-        requires { list_of self.plan ≡ Some finder }
-        ensures { result ≡ record self.entry { learns = true } }
-    {
-        self.learn_by(finder);
-        self
     }
 
     /// From now on the search tunes itself, by this finder. The emitted lines do not depend on it.

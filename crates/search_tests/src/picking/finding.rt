@@ -67,8 +67,8 @@ fn emitted_by_finder(
     if !is_in_lines(compiled) {
         return None;
     }
-    let finder = finder_by(alloc, compiled)?;
-    let mut picker = Picker::new(alloc, Some(compiled), false, rule).learning_by(finder);
+    let mut picker = Picker::new(alloc, Some(compiled), false, rule);
+    picker.learn_by(finder_by(alloc, compiled)?);
     emitted_by(alloc, &mut picker, text)
 }
 
@@ -122,8 +122,8 @@ fn hands_back_by(alloc: Global, compiled: &Compiled) -> Option<bool> {
     if !is_in_lines(compiled) {
         return None;
     }
-    let finder = finder_by(alloc, compiled)?;
-    let picker = Picker::new(alloc, Some(compiled), false, PARTS).learning_by(finder);
+    let mut picker = Picker::new(alloc, Some(compiled), false, PARTS);
+    picker.learn_by(finder_by(alloc, compiled)?);
     Some(picker.learns() && picker.into_finder().is_some())
 }
 

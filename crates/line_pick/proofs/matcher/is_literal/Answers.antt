@@ -1,10 +1,12 @@
 -- A literal as long as the line ends with it only as a whole.
-use Rattle.std.proofs.Common.{◌∙◌}
-use Rattle.line_pick.proofs.Literals.{whole-matches, whole-shorter}
+use Rattle.std.proofs.Common.{◌∙◌, arith, sym}
+use Rattle.line_pick.proofs.Literals.{bounded-texts, too-long, whole-matches}
 use Rattle.line_pick.proofs.matcher.is_literal.Goals as goal
 
-pub returns-then-are_shorter : goal.returns-then-are_shorter
-returns-then-are_shorter c = whole-shorter c.args.list.now c.normal_law.ensures c.args.line.now (c.are_shorter.ensures c.if-are_shorter.true)
+pub returns-then-longest-line : goal.returns-then-longest-line
+returns-then-longest-line c =
+    let l = c.args.list.now in
+    sym (too-long l.folding l.texts c.args.line.now (λ k d inside. omega (arith, c.if-longest-line.true, bounded-texts l.texts c.longest-longest.result c.longest-longest.ensures.greatest k d inside)))
 
 pub returns : goal.returns
 returns c =

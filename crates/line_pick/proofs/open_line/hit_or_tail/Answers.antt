@@ -10,7 +10,7 @@ returns-in-Some-clause-part c =
     let normal = subst IsNormal c.list-list.ensures c.normal_law.ensures in
     let bound = subst (λ (k : Literals). All (λ len. len ≤ c.longest-longest.result) (lengths k)) c.list-list.ensures c.longest-longest.ensures.greatest in
     let part = hit-part l normal c.longest-longest.result bound c.args.line.now c.saturating_sub.result c.in-Some.end c.saturating_sub.ensures (rw c.new-search.ensures at c.in-Some.ensures.next) in
-    rw (c.longest-longest.ensures.value, c.list-list.ensures) at part
+    rw (c.longest-longest.ensures.last, c.list-list.ensures) at part
 
 pub returns-in-None-clause-part : goal.returns-in-None-clause-part
 returns-in-None-clause-part c =
@@ -18,4 +18,4 @@ returns-in-None-clause-part c =
     let normal = subst IsNormal c.list-list.ensures c.normal_law.ensures in
     let bound = subst (λ (k : Literals). All (λ len. len ≤ c.longest-longest.result) (lengths k)) c.list-list.ensures c.longest-longest.ensures.greatest in
     let part = tail-part l normal c.longest-longest.result bound c.args.line.now (c.max.result - 1) (omega (arith, c.max.ensures)) (rw c.new-search.ensures at c.in-None.ensures.next) c.saturating_sub-in-None.result _ c.saturating_sub-in-None.ensures refl (omega (arith, c.max.ensures)) (omega (arith, c.max.ensures)) in
-    rw (c.longest-longest.ensures.value, c.list-list.ensures) at part
+    rw (c.longest-longest.ensures.last, c.list-list.ensures) at part

@@ -4,7 +4,7 @@ use Rattle.std.specs.Option.{option_copied}
 use Rattle.lit_base.specs.Literals.{Literals, lengths}
 use Rattle.lit_plan.specs.Plans.{Plan}
 use Rattle.line_pick.specs.Matching.{literals_of}
-use Rattle.line_pick.proofs.OpenLemmas.{bounded-texts}
+use Rattle.line_pick.proofs.Literals.{bounded-texts}
 use Rattle.line_pick.proofs.open_line.longest_with.Goals as goal
 
 pub returns-in-Some-clause-greatest : goal.returns-in-Some-clause-greatest

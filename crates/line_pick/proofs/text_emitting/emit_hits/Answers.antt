@@ -5,10 +5,10 @@ use Rattle.lit_base.specs.Lines.{ended_lines}
 use Rattle.lit_base.specs.Selected.{matches}
 use Rattle.lit_plan.specs.Plans.{Plan}
 use Rattle.text_lines.specs.HitLines.{AllMiss, HitSearch}
-use Rattle.line_pick.specs.Emitting.{answer_of, as_numbered}
+use Rattle.line_pick.specs.Emitting.{answer_of}
 use Rattle.line_pick.proofs.AroundHitLines.{hit-count, hit-length, missed-numbered}
 use Rattle.line_pick.proofs.EmittedHits.{EmittedOn-hit, hit-last, missed-last}
-use Rattle.line_pick.proofs.EmittedLemmas.{Emitted-lines, EmittedOn-none, answer_to-More}
+use Rattle.line_pick.proofs.EmittedLemmas.{Emitted-lines, answer_to-More}
 use Rattle.line_pick.proofs.NumberLemmas.{Emitted-taken}
 use Rattle.line_pick.proofs.text_emitting.emit_hits.Goals as goal
 
@@ -18,7 +18,7 @@ loop-hit-init g c = record {
   finder = refl;
   room = omega arith;
   count = λ _. refl;
-  emitted = EmittedOn-none (as_numbered c.args.is_numbered g.S.Sink.takes) c.args.sink.now _;
+  emitted = record { go = λ answer t h. h };
 }
 
 pub selects_at_hit-selected-requires : goal.selects_at_hit-selected-requires

@@ -5,8 +5,8 @@ use Rattle.std.specs.Option.{option_copied}
 use Rattle.lit_base.specs.Lines.{ended_lines}
 use Rattle.lit_plan.specs.Plans.{Plan}
 use Rattle.line_pick.specs.declared.halt.Halt.{Halt}
-use Rattle.line_pick.specs.declared.line_rule.LineRule.{LineRule}
-use Rattle.line_pick.specs.declared.line_search.LineSearch.{LineSearch}
+use Rattle.line_pick.specs.declared.matcher.LineRule.{LineRule}
+use Rattle.line_pick.specs.declared.matcher.LineSearch.{LineSearch}
 use Rattle.line_pick.specs.declared.sink.Next.TheVariants.{More}
 use Rattle.line_pick.specs.declared.state.State.{State}
 use Rattle.line_pick.specs.Emitting.{answer_of}

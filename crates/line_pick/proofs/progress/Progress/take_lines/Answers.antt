@@ -6,7 +6,7 @@ use Rattle.std.proofs.lemmas.Result.{err_from_is_err_and, on_ok_weaker}
 use Rattle.line_pick.specs.Emitting.{Whole, numbered}
 use Rattle.line_pick.specs.Matching.{picks}
 use Rattle.line_pick.specs.OpenLines.{Keeps, most_kept}
-use Rattle.line_pick.specs.declared.line_search.LineSearch.{LineSearch}
+use Rattle.line_pick.specs.declared.matcher.LineSearch.{LineSearch}
 use Rattle.line_pick.proofs.EmittedLemmas.{Emitted-lines, Emitted-nothing, Emits-held, OnOk-any, answer_to-More}
 use Rattle.line_pick.proofs.CutLemmas.{ended_lines-cut, open_rest-cut, length-cut}
 use Rattle.line_pick.proofs.progress.Progress.take_lines.Goals as goal
