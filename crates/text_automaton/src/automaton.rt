@@ -114,10 +114,7 @@ impl Automaton {
     pub(crate) fn is_made(&self) -> bool
         ensures { result ≡ self.now.is_made }
     {
-        match self.stage {
-            Stage::Made => true,
-            Stage::Unmade | Stage::Refused => false,
-        }
+        matches!(self.stage, Stage::Made)
     }
 
     /// The next position at which some literal ends, with its state; the reading moves there. `None` if no literal ends
