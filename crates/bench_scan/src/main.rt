@@ -5,7 +5,7 @@
 #![tactic(auto)]
 
 use anyhow::{Result, bail, ensure};
-use flow_scan::{Compiled, EndFinder, Hit, Scanner, scan_all};
+use flow_scan::{Compiled, EndFinder, Hit, Scanner, scan_after, scan_all};
 use list_plan::compile;
 use lit_base::{Fold, LitList, Profile, RawList};
 use par_scan::{MAX_WORKERS, NoGate, scan_parts};
@@ -133,10 +133,8 @@ fn scan<R: Threads + Sync>(
 
 /// How many hits a text has, by what learns from it if the list has literals enough.
 fn scan_learning(alloc: Global, compiled: &Compiled, text: &[u8]) -> Result<usize> {
-    match EndFinder::new_unless_few(alloc, compiled)? {
-        Some(mut finder) => Ok(finder.scan_after(alloc, compiled, text, 0)?.len()),
-        None => Ok(scan_all(alloc, compiled, text)?.len()),
-    }
+    let mut finder = EndFinder::new_unless_few(alloc, compiled)?;
+    Ok(scan_after(&mut finder, alloc, compiled, text, 0)?.len())
 }
 
 /// How many hits a text has, fed in pieces, the hits of each let go before the next.
@@ -166,7 +164,7 @@ fn scan_pieces_learning(
     let mut out: Vec<Hit> = Vec::new(alloc);
     let mut count = 0usize;
     'pieces: for piece in text.chunks(size.max(1)) {
-        scanner.feed_learning(&mut finder, piece, usize::MAX, &mut out)?;
+        scanner.feed_until(&mut finder, piece, usize::MAX, &mut out)?;
         count = count.saturating_add(out.len());
         out.clear();
     }

@@ -1,6 +1,7 @@
 -- The last bytes of a text determine the hits that a piece after it adds, piece by piece.
 use Rattle.std.proofs.Common.{◌≡◌, ℕ, ◌+◌, ◌-◌, ◌≤◌, List, [], ◌∷◌, ◌++◌, length, take, drop, refl, sym, ap, ◌∙◌, subst, arith}
 use Rattle.std.specs.List.{concat}
+use Rattle.std.proofs.Math.Seq.{take-append-add}
 use Rattle.std.proofs.lemmas.List.Folds.{concat-append}
 use Rattle.std.proofs.lemmas.List.{append-nil, append_assoc, length-append, length-take, take-append-drop, take_at, drop_at, drop-append-le, drop-drop}
 use Rattle.lit_base.specs.Literals.{Literals}
@@ -10,8 +11,8 @@ use Rattle.flow_scan.specs.Tails.{AreAdded, AreSteps, GainsHits, last_bytes}
 use Rattle.text_ends.specs.HitsAfter.{AreHitsAfter}
 use Rattle.lit_plan.specs.Bounds.{HasBounds, carry_of}
 use Rattle.flow_scan.proofs.LastBytes.{last_len, occurs_after_all, occurs_after_last}
-use Rattle.text_ends.proofs.Occurring.{occurs_after, occurs_of_prefix}
-use Rattle.text_ends.proofs.HitLists.{hits_joined, hits_none, none_past}
+use Rattle.text_ends.proofs.Occurring.{occurs_after}
+use Rattle.text_ends.proofs.HitLists.{hits_joined, hits_none, none_in_prefix, none_past}
 
 -- the hits that a piece adds after the last bytes of a text are those that it adds after the text
 pub added_after_all : (l : Literals) (text piece : List ℕ) (at : ℕ) (found : List (ℕ × ℕ)) → HasBounds l → AreAdded l (last_bytes (carry_of l) text) piece at found → AreAdded l text piece at found
@@ -95,9 +96,9 @@ added_in_place l tail piece at found rest b long early late =
 
 -- where nothing ends in a piece, nothing ends in its first bytes
 pub quiet_prefix : (l : Literals) (tail piece : List ℕ) (n : ℕ) → NoEndAfter l (tail ++ piece) (length tail) → NoEndAfter l (tail ++ take n piece) (length tail)
-quiet_prefix l tail piece n none end later here =
-    let whole : (tail ++ take n piece) ++ drop n piece ≡ tail ++ piece = append_assoc tail (take n piece) (drop n piece) ∙ ap (λ t. tail ++ t) (take-append-drop n piece) in
-    none end later (here.0, subst (λ t. Occurs l t here.0 end) whole (occurs_of_prefix l (tail ++ take n piece) (drop n piece) here.0 end here.1))
+quiet_prefix l tail piece n none =
+    subst (λ t. NoEndAfter l t (length tail)) (take-append-add tail piece n)
+    (none_in_prefix l (tail ++ piece) (length tail) (length tail) (length tail + n) (omega arith) none)
 
 -- nor in the piece alone
 pub quiet_rest : (l : Literals) (tail piece : List ℕ) (n : ℕ) → NoEndAfter l (tail ++ piece) (length tail) → NoEndAfter l piece n

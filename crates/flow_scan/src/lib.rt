@@ -8,16 +8,17 @@ mod scanner;
 mod scanning;
 mod stream;
 mod tuned_plan;
-mod until;
 
 pub use lit_plan::{Compiled, Fault, least_law};
 pub use scanner::Scanner;
-pub use scanning::{pieces_law, scan_after, scan_all, scan_pieces};
+pub use scanning::{pieces_law, scan_after, scan_all, scan_pieces, scan_until};
 pub use stream::Stream;
 pub use text_ends::Hit;
-pub use text_search::{EndFinder, LEAST_LEARNED, LEAST_SAMPLE, TextSearch, make_if_long, next_end};
+pub use text_search::{
+    EndFinder, HitSearch, LEAST_LEARNED, LEAST_SAMPLE, PlainSearch, TextSearch, make_if_long,
+    next_end,
+};
 pub use tuned_plan::TunedPlan;
-pub use until::scan_until;
 
 #[cfg(test)]
 mod tests;

@@ -1,8 +1,7 @@
 //! The state of a scan of a stream, without its plan.
-ghost use Rattle.std.specs.Prelude.{◌≡◌, ◌↔◌, ◌+◌, ◌-◌, ◌^◌, ◌<◌, ◌≤◌, ◌⊎◌, ◌++◌, [], IfErr, IfOk, IsErrOf, IsOk, IsOkUnless, OnErr, length, min, take};
-ghost use Rattle.lit_plan.specs.declared.fault.Fault.TheVariants.{OutOfMemory, StreamTooLong};
+ghost use Rattle.std.specs.Prelude.{◌≡◌, ◌+◌, ◌-◌, ◌^◌, ◌<◌, ◌≤◌, ◌++◌, [], IfOk, IsOk, OnErr, length, min};
 ghost use Rattle.lit_base.specs.NextEnds.{NoEndAfter};
-ghost use Rattle.flow_scan.specs.Scanners.{Reached, advanced, started_at};
+ghost use Rattle.flow_scan.specs.Scanners.{FeedsUpTo, Reached, scanning, started_at};
 ghost use Rattle.flow_scan.specs.Boundaries.{AreOffered};
 ghost use Rattle.flow_scan.specs.Tails.{StopsIn};
 ghost use Rattle.lit_plan.specs.Bounds.{carry_of};
@@ -84,14 +83,8 @@ impl Progress {
         requires plan { S.serves search.old compiled.now.literals }
         requires carry { self.old.carry ≡ carry_of compiled.now.literals }
         ensures plan { S.serves search.new compiled.now.literals }
-        ensures ok { IfOk result (λ count. self.new ≡ advanced self.old (take count piece.now)) }
-        ensures hits { IfOk result (λ count. StopsIn compiled.now.literals self.old.tail piece.now self.old.place most count out.old.items out.new.items) }
-        ensures too_long { IsErrOf result StreamTooLong ↔ (2 ^ 64 ≤ self.old.place + length piece.now) }
-        ensures faults { IfErr result (λ fault. (fault ≡ StreamTooLong) ⊎ (fault ≡ OutOfMemory)) }
-        ensures same { OnErr result (self.new ≡ self.old) }
-        ensures same_hits { OnErr result (out.new.items ≡ out.old.items) }
-        ensures quiet { NoEndAfter compiled.now.literals (self.old.tail ++ piece.now) (length self.old.tail)
-            → IsOkUnless result StreamTooLong }
+        ensures carry { self.new.carry ≡ self.old.carry }
+        ensures fed { FeedsUpTo (scanning compiled.now self.old) (scanning compiled.now self.new) piece.now most out.old.items out.new.items result }
     {
         if piece.len() as u64 > u64::MAX - self.place() {
             return Err(Fault::StreamTooLong);

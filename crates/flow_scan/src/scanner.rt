@@ -1,9 +1,8 @@
 //! Scans a stream that comes in pieces.
-ghost use Rattle.std.specs.Prelude.{◌≡◌, ◌↔◌, ◌+◌, ◌-◌, ◌^◌, ◌≤◌, ◌⊎◌, ◌++◌, IfErr, IfOk, IsErrOf, IsOkUnless, OnErr, OnOk, length, min, take};
-ghost use Rattle.lit_plan.specs.declared.fault.Fault.TheVariants.{OutOfMemory, StreamTooLong};
-ghost use Rattle.lit_base.specs.NextEnds.{NoEndAfter};
-ghost use Rattle.flow_scan.specs.Scanners.{Scanning, fed, started};
-ghost use Rattle.flow_scan.specs.Tails.{GainsHits, StopsIn};
+ghost use Rattle.std.specs.Prelude.{◌≡◌, ◌-◌, IfOk, IsOkUnless, OnOk, length, min};
+ghost use Rattle.lit_plan.specs.declared.fault.Fault.TheVariants.{OutOfMemory};
+ghost use Rattle.flow_scan.specs.Scanners.{FeedsUpTo, MayRefuse, Scanning, fed, started};
+ghost use Rattle.flow_scan.specs.Tails.{GainsHits};
 ghost use Rattle.lit_plan.specs.Bounds.{carry_of};
 
 use crate::progress::Progress;
@@ -11,7 +10,7 @@ use lit_plan::{Compiled, Fault};
 use std::alloc::Global;
 use std::marker::Model;
 use text_ends::Hit;
-use text_search::{EndFinder, PlainSearch};
+use text_search::{HitSearch, PlainSearch};
 
 /// A scan of one stream by a plan. The stream comes in pieces, cut anywhere. The scan gives every hit once and in
 /// order. Between pieces it keeps only the last bytes, fewer than the longest literal has. It takes this memory when it
@@ -60,17 +59,9 @@ impl<'p> Scanner<'p> {
     pub fn feed(&mut self, piece: &[u8], out: &mut Vec<Hit>) -> Result<(), Fault>
         ensures ok { OnOk result (self.new ≡ fed self.old piece.now) }
         ensures hits { OnOk result (GainsHits self.old.plan.literals self.old.tail piece.now self.old.place out.old.items out.new.items) }
-
-        ensures too_long { IsErrOf result StreamTooLong ↔ (2 ^ 64 ≤ self.old.place + length piece.now) }
-        ensures faults { IfErr result (λ fault. (fault ≡ StreamTooLong) ⊎ (fault ≡ OutOfMemory)) }
-        ensures same { OnErr result (self.new ≡ self.old) }
-        ensures same_hits { OnErr result (out.new.items ≡ out.old.items) }
-
-        // Where nothing ends in the piece, it takes no memory.
-        ensures quiet { NoEndAfter self.old.plan.literals (self.old.tail ++ piece.now) (length self.old.tail)
-            → IsOkUnless result StreamTooLong }
+        ensures refusals { MayRefuse self.old self.new piece.now out.old.items out.new.items result }
     {
-        self.feed_until(piece, usize::MAX, out)?;
+        self.feed_until(&mut PlainSearch, piece, usize::MAX, out)?;
         Ok(())
     }
 
@@ -78,56 +69,23 @@ impl<'p> Scanner<'p> {
     /// that end in the fed bytes, and returns how many bytes were fed. So `out` gains at most `most` hits and one for
     /// each literal.
     ///
-    /// Refusals as for `feed`, for the whole piece. Once a piece is not too long, no rest of it is.
-    pub fn feed_until(
-        &mut self,
-        piece: &[u8],
-        most: usize,
-        out: &mut Vec<Hit>,
-    ) -> Result<usize, Fault>
-        ensures ok { IfOk result (λ count. self.new ≡ fed self.old (take count piece.now)) }
-        ensures hits { IfOk result (λ count. StopsIn self.old.plan.literals self.old.tail piece.now self.old.place most count out.old.items out.new.items) }
-
-        ensures too_long { IsErrOf result StreamTooLong ↔ (2 ^ 64 ≤ self.old.place + length piece.now) }
-        ensures faults { IfErr result (λ fault. (fault ≡ StreamTooLong) ⊎ (fault ≡ OutOfMemory)) }
-        ensures same { OnErr result (self.new ≡ self.old) }
-        ensures same_hits { OnErr result (out.new.items ≡ out.old.items) }
-
-        // Where nothing ends in the piece, it takes no memory.
-        ensures quiet { NoEndAfter self.old.plan.literals (self.old.tail ++ piece.now) (length self.old.tail)
-            → IsOkUnless result StreamTooLong }
-    {
-        self.progress
-            .feed_by(&mut PlainSearch, self.compiled, piece, most, out)
-    }
-
-    /// Feeds the next piece as `feed_until` does, by a finder that tunes itself to it. The finder has the scan's plan,
-    /// and may serve any number of scans by this plan. The hits do not depend on the tuning.
+    /// The search has the scan's plan: it is `PlainSearch`, or a finder that tunes itself to the pieces and may serve any
+    /// number of scans by this plan. The hits do not depend on it.
     ///
-    /// Refusals as for `feed`, for the whole piece.
-    pub fn feed_learning(
+    /// Refusals as for `feed`, for the whole piece. Once a piece is not too long, no rest of it is.
+    pub fn feed_until<S: HitSearch>(
         &mut self,
-        finder: &mut EndFinder,
+        search: &mut S,
         piece: &[u8],
         most: usize,
         out: &mut Vec<Hit>,
     ) -> Result<usize, Fault>
-        requires { finder.old ≡ self.old.plan.literals }
-        ensures finder { finder.new ≡ finder.old }
-        ensures ok { IfOk result (λ count. self.new ≡ fed self.old (take count piece.now)) }
-        ensures hits { IfOk result (λ count. StopsIn self.old.plan.literals self.old.tail piece.now self.old.place most count out.old.items out.new.items) }
-
-        ensures too_long { IsErrOf result StreamTooLong ↔ (2 ^ 64 ≤ self.old.place + length piece.now) }
-        ensures faults { IfErr result (λ fault. (fault ≡ StreamTooLong) ⊎ (fault ≡ OutOfMemory)) }
-        ensures same { OnErr result (self.new ≡ self.old) }
-        ensures same_hits { OnErr result (out.new.items ≡ out.old.items) }
-
-        // Where nothing ends in the piece, it takes no memory.
-        ensures quiet { NoEndAfter self.old.plan.literals (self.old.tail ++ piece.now) (length self.old.tail)
-            → IsOkUnless result StreamTooLong }
+        requires { S.serves search.old self.old.plan.literals }
+        ensures search { S.serves search.new self.old.plan.literals }
+        ensures fed { FeedsUpTo self.old self.new piece.now most out.old.items out.new.items result }
     {
         self.progress
-            .feed_by(finder, self.compiled, piece, most, out)
+            .feed_by(search, self.compiled, piece, most, out)
     }
 
     /// The position reached: the base and the number of bytes fed.

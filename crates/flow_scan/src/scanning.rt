@@ -7,14 +7,15 @@ ghost use Rattle.lit_base.specs.Occurrences.{IsHits};
 ghost use Rattle.lit_plan.specs.declared.fault.Fault.TheVariants.{OutOfMemory, StreamTooLong};
 ghost use Rattle.lit_base.specs.NextEnds.{NoEndAfter};
 ghost use Rattle.text_ends.specs.HitsAfter.{AreHitsAfter, Continues};
+ghost use Rattle.text_search.specs.Searched.{AddsHits};
 ghost use Rattle.flow_scan.specs.Tails.{PiecesLaw, bytes_of};
 
 use crate::scanner::Scanner;
-use crate::until::scan_until;
 use lit_base::LitList;
 use lit_plan::{Compiled, Fault, carry, least_law};
 use std::alloc::Global;
 use text_ends::Hit;
+use text_search::{HitSearch, PlainSearch};
 
 /// All hits in a text, in order. The only refusal is `OutOfMemory`.
 pub fn scan_all(alloc: Global, compiled: &Compiled, text: &[u8]) -> Result<Vec<Hit>, Fault>
@@ -25,19 +26,23 @@ pub fn scan_all(alloc: Global, compiled: &Compiled, text: &[u8]) -> Result<Vec<H
     ensures quiet { NoEndAfter compiled.now.literals text.now 0 → IsOk result }
 {
     let _carry = compiled.carry();
-    let hits = scan_after(alloc, compiled, text, 0)?;
+    let hits = scan_after(&mut PlainSearch, alloc, compiled, text, 0)?;
     Ok(hits)
 }
 
 /// The hits of a text that end after `from`, in order. Together with the hits of the first `from` bytes they are the
-/// hits of the text. The only refusal is `OutOfMemory`.
-pub fn scan_after(
+/// hits of the text. They do not depend on the search: `PlainSearch`, or a finder, which tunes itself on the way. The only
+/// refusal is `OutOfMemory`.
+pub fn scan_after<S: HitSearch>(
+    search: &mut S,
     alloc: Global,
     compiled: &Compiled,
     text: &[u8],
     from: usize,
 ) -> Result<Vec<Hit>, Fault>
-    requires { from ≤ length text.now }
+    requires plan { S.serves search.old compiled.now.literals }
+    requires inside { from ≤ length text.now }
+    ensures plan { S.serves search.new compiled.now.literals }
     ensures ok { IfOk result (λ hits. AreHitsAfter compiled.now.literals text.now from from hits.items) }
     ensures continues { IfOk result (λ hits. Continues compiled.now.literals text.now from hits.items) }
     ensures refused { IsOkUnless result OutOfMemory }
@@ -47,8 +52,30 @@ pub fn scan_after(
 {
     let _carry = compiled.carry();
     let mut hits = Vec::new(alloc);
-    scan_until(compiled, text, from, usize::MAX, &mut hits)?;
+    scan_until(search, compiled, text, from, usize::MAX, &mut hits)?;
     Ok(hits)
+}
+
+/// Adds to `out` the hits of a text that end after `from`, up to the first end by which `out` gained at least `most`
+/// hits. Returns this end, or the text's length. A scan from there continues with the next hit. So `out` gains at most
+/// `most` hits and one for each literal. They do not depend on the search.
+///
+/// The only refusal is `OutOfMemory`, which comes only if a literal ends after `from`. It leaves `out` unchanged.
+pub fn scan_until<S: HitSearch>(
+    search: &mut S,
+    compiled: &Compiled,
+    text: &[u8],
+    from: usize,
+    most: usize,
+    out: &mut Vec<Hit>,
+) -> Result<usize, Fault>
+    requires plan { S.serves search.old compiled.now.literals }
+    requires inside { from ≤ length text.now }
+    ensures plan { S.serves search.new compiled.now.literals }
+    ensures hits { AddsHits compiled.now.literals text.now from from most out.old.items out.new.items result }
+    ensures refused { IsOkUnless result OutOfMemory }
+{
+    Ok(search.add_spans(compiled, text, from, most, out)?)
 }
 
 /// The guarantees of a plan and its scan, on one call that feeds a scanner any pieces. No assignment of the literals to

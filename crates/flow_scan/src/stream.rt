@@ -1,10 +1,8 @@
 //! A scan of a stream that shares its plan.
-ghost use Rattle.std.specs.Prelude.{◌≡◌, ◌↔◌, ◌+◌, ◌-◌, ◌^◌, ◌≤◌, ◌⊎◌, ◌++◌, IfErr, IfOk, IsErrOf, IsOkUnless, OnErr, length, min, take};
+ghost use Rattle.std.specs.Prelude.{◌≡◌, ◌-◌, IfOk, IsOkUnless, length, min};
 ghost use Rattle.std.specs.Arc.{arc_value};
-ghost use Rattle.lit_plan.specs.declared.fault.Fault.TheVariants.{OutOfMemory, StreamTooLong};
-ghost use Rattle.lit_base.specs.NextEnds.{NoEndAfter};
-ghost use Rattle.flow_scan.specs.Scanners.{Scanning, fed, started};
-ghost use Rattle.flow_scan.specs.Tails.{StopsIn};
+ghost use Rattle.lit_plan.specs.declared.fault.Fault.TheVariants.{OutOfMemory};
+ghost use Rattle.flow_scan.specs.Scanners.{FeedsUpTo, Scanning, started};
 ghost use Rattle.lit_plan.specs.Bounds.{carry_of};
 
 use crate::progress::Progress;
@@ -71,17 +69,7 @@ impl Stream {
         most: usize,
         out: &mut Vec<Hit>,
     ) -> Result<usize, Fault>
-        ensures ok { IfOk result (λ count. self.new ≡ fed self.old (take count piece.now)) }
-        ensures hits { IfOk result (λ count. StopsIn self.old.plan.literals self.old.tail piece.now self.old.place most count out.old.items out.new.items) }
-
-        ensures too_long { IsErrOf result StreamTooLong ↔ (2 ^ 64 ≤ self.old.place + length piece.now) }
-        ensures faults { IfErr result (λ fault. (fault ≡ StreamTooLong) ⊎ (fault ≡ OutOfMemory)) }
-        ensures same { OnErr result (self.new ≡ self.old) }
-        ensures same_hits { OnErr result (out.new.items ≡ out.old.items) }
-
-        // Where nothing ends in the piece, it does not fail for want of memory.
-        ensures quiet { NoEndAfter self.old.plan.literals (self.old.tail ++ piece.now) (length self.old.tail)
-            → IsOkUnless result StreamTooLong }
+        ensures { FeedsUpTo self.old self.new piece.now most out.old.items out.new.items result }
     {
         let compiled: &Compiled = &self.plan;
         let count = self.progress.fed().saturating_add(piece.len() as u64);

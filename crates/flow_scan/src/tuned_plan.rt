@@ -1,11 +1,10 @@
 //! A plan with what its searches have learned.
-ghost use Rattle.std.specs.Prelude.{◌≡◌, ◌≤◌, IfOk, IfSome, IsOk, IsOkUnless, OnErr, length};
+ghost use Rattle.std.specs.Prelude.{◌≡◌, ◌≤◌, IfOk, IsOkUnless, length};
 ghost use Rattle.std.specs.Arc.{arc_value};
 ghost use Rattle.lit_plan.specs.declared.fault.Fault.TheVariants.{OutOfMemory};
-ghost use Rattle.lit_base.specs.NextEnds.{NoEndAfter};
-ghost use Rattle.text_ends.specs.HitsAfter.{StopsAt};
+ghost use Rattle.text_search.specs.Searched.{AddsHits};
 
-use crate::until::scan_until;
+use crate::scanning::scan_until;
 use lit_plan::{Compiled, Fault};
 use std::alloc::{AllocError, Global};
 use std::marker::Model;
@@ -59,10 +58,8 @@ impl TunedPlan {
         Ok(Arc::try_clone(&self.plan)?)
     }
 
-    /// Adds to `out` the hits of a text that end after `from`, as `scan_until` does by the plan alone. It tunes itself to
-    /// the texts; the hits do not depend on this. Without memory for a finder it goes on by the plan alone.
-    ///
-    /// The only refusal is `OutOfMemory`. It leaves `out` unchanged.
+    /// Adds to `out` the hits of a text that end after `from`, as `scan_until` does. It tunes itself to the texts; the hits
+    /// do not depend on this. Without memory for a finder it goes on by the plan alone.
     pub fn scan_until(
         &mut self,
         alloc: Global,
@@ -73,19 +70,12 @@ impl TunedPlan {
     ) -> Result<usize, Fault>
         requires { from ≤ length text.now }
         ensures same { self.new ≡ self.old }
-        ensures ok { IfOk result (λ stop. StopsAt self.old.literals text.now from from most stop out.old.items out.new.items) }
-        ensures same_hits { OnErr result (out.new.items ≡ out.old.items) }
+        ensures hits { AddsHits self.old.literals text.now from from most out.old.items out.new.items result }
         ensures refused { IsOkUnless result OutOfMemory }
-
-        // Where nothing ends after the position, it does not fail for want of memory.
-        ensures quiet { NoEndAfter self.old.literals text.now from → IsOk result }
     {
         self.bytes = self.bytes.saturating_add((text.len() - from) as u64);
         let compiled: &Compiled = &self.plan;
         make_if_long(&mut self.finder, alloc, compiled, self.bytes);
-        match &mut self.finder {
-            Some(finder) => Ok(finder.add_spans(compiled, text, from, most, out)?),
-            None => scan_until(compiled, text, from, most, out),
-        }
+        scan_until(&mut self.finder, compiled, text, from, most, out)
     }
 }

@@ -3,7 +3,6 @@ ghost use Rattle.std.specs.Prelude.{◌≡◌, ◌+◌, ◌-◌, ◌*◌, ◌<�
 ghost use Rattle.lit_base.specs.Occurrences.{IsHits};
 ghost use Rattle.lit_base.specs.NextEnds.{NoEndAfter};
 ghost use Rattle.text_ends.specs.HitsAfter.{Continues};
-ghost use Rattle.lit_plan.specs.declared.fault.Fault.TheVariants as flow;
 ghost use Rattle.par_scan.specs.declared.fault.Fault.TheVariants.{OutOfMemory};
 ghost use denote.Param.Send.{IsSync};
 
@@ -37,7 +36,7 @@ pub fn scan_parts<R: Threads + Sync, G: Gate>(
     // Where nothing ends in the text, it needs no memory.
     ensures quiet { NoEndAfter compiled.now.literals text.now 0 → IsOk result }
 {
-    compiled.list().normal_law();
+    let _carry = compiled.carry();
     if workers == 1 {
         return scan_part(alloc, gate, compiled, text, 0, 1);
     }
@@ -73,7 +72,7 @@ fn last_part(len: usize, workers: usize) -> usize
     len / workers
 }
 
-/// A worker's scan: the hits that end in the text after a position.
+/// A worker's scan: the hits that end in the text after a position, by a finder if the rest of the text is long.
 fn scan_part<G: Gate>(
     alloc: Global,
     gate: &G,
@@ -88,30 +87,12 @@ fn scan_part<G: Gate>(
     ensures quiet { NoEndAfter compiled.now.literals text.now from → IsOk result }
 {
     gate.enter(worker);
-    let hits = hits_after(alloc, compiled, text, from);
+    let mut finder = None;
+    make_if_long(&mut finder, alloc, compiled, (text.len() - from) as u64);
+    let hits = scan_after(&mut finder, alloc, compiled, text, from);
     gate.leave(worker);
     match hits {
         Ok(hits) => Ok(hits),
         Err(_) => Err(Fault::OutOfMemory),
-    }
-}
-
-/// The hits that end in a text after a position, by a finder if the rest of the text is long.
-fn hits_after(
-    alloc: Global,
-    compiled: &Compiled,
-    text: &[u8],
-    from: usize,
-) -> Result<Vec<Hit>, flow_scan::Fault>
-    requires { from ≤ length text.now }
-    ensures continues { IfOk result (λ hits. Continues compiled.now.literals text.now from hits.items) }
-    ensures refused { IsOkUnless result flow.OutOfMemory }
-    ensures quiet { NoEndAfter compiled.now.literals text.now from → IsOk result }
-{
-    let mut finder = None;
-    make_if_long(&mut finder, alloc, compiled, (text.len() - from) as u64);
-    match finder {
-        Some(mut finder) => finder.scan_after(alloc, compiled, text, from),
-        None => scan_after(alloc, compiled, text, from),
     }
 }

@@ -3,4 +3,4 @@
 
 mod prefiltered;
 
-pub use prefiltered::{PrefilteredEnds, next_verified};
+pub use prefiltered::PrefilteredEnds;

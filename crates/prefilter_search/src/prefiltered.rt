@@ -64,6 +64,25 @@ impl<'a> PrefilteredEnds<'a> {
         }
     }
 
+    /// The same walk from a position of the text on, further on or back. It uses the filter results that it already has.
+    #[inline]
+    pub fn skip_to(&mut self, from: usize)
+        requires { from ≤ length self.old.text }
+        ensures { self.new ≡ record self.old { from = from } }
+    {
+        let start = self.list.skip_short_ends(from).min(self.text.len());
+        self.candidates.skip_to(start);
+        self.from = from;
+    }
+
+    /// The text.
+    #[inline]
+    pub fn text(&self) -> &'a [u8]
+        ensures { result.now ≡ self.now.text }
+    {
+        self.text
+    }
+
     /// The counters so far.
     pub fn tally(&self) -> Tally {
         self.tally
@@ -101,7 +120,7 @@ impl<'a> Ends for PrefilteredEnds<'a> {
 /// candidates come from a prefilter for the literals. Counts candidates at which nothing ends in `tally`. It takes no
 /// memory.
 #[inline]
-pub fn next_verified(
+fn next_verified(
     list: &ListIndex,
     text: &[u8],
     candidates: &mut Candidates,

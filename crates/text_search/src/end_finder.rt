@@ -1,25 +1,23 @@
 //! A search through texts that tunes itself to them.
-ghost use Rattle.std.specs.Prelude.{◌≡◌, ◌+◌, ◌-◌, ◌^◌, ◌<◌, ◌≤◌, IfOk, IfSome, IsOk, IsOkUnless, MatchOption, OnErr, length};
+ghost use Rattle.std.specs.Prelude.{◌≡◌, ◌+◌, ◌-◌, ◌^◌, ◌<◌, ◌≤◌, IfOk, IfSome, length};
 ghost use Rattle.std.specs.Option.{IfNone};
-ghost use Rattle.lit_plan.specs.declared.fault.Fault.TheVariants.{OutOfMemory};
-ghost use Rattle.lit_base.specs.NextEnds.{IsNextEnd, NoEndAfter};
-ghost use Rattle.text_ends.specs.HitsAfter.{AreHitsAfter, Continues, StopsAt};
+ghost use Rattle.text_search.specs.Searched.{AddsHits, FindsNext};
 
-use crate::hit_search::HitSearch;
+use crate::hit_search::{HitSearch, PlainSearch};
 use crate::prices::{cost_by_automaton, cost_by_plan, cost_of_dense_ends};
 use crate::sampling::Sample;
 use crate::strategy::{
     Engine, Step, Strategy, Wanted, has_factors, has_use, least_gathered, sample_len, span_after,
     wants_automaton, wants_automaton_first, wants_shift_or,
 };
-use crate::text_search::TextSearch;
+use crate::text_search::{TextSearch, next_of};
 use factor_search::{FactorEnds, Factors};
-use lit_plan::{Compiled, Fault};
+use lit_plan::Compiled;
 use shift_search::{ShiftOr, ShiftedEnds};
 use std::alloc::{AllocError, Global};
 use std::marker::Model;
 use text_automaton::{Automaton, AutomatonEnds};
-use text_ends::{EndRate, Ends, Hit, add_hits_of};
+use text_ends::{EndRate, Hit, add_hits_of};
 
 /// A search through the texts of one run for the literals of a plan. It begins as `next_end` does. When false positives
 /// and ends have cost too much, it tunes itself to a sample of the text. It then compares the estimates of factors,
@@ -65,7 +63,7 @@ impl EndFinder {
         })
     }
 
-    /// As `new`, or `None` if the plan has at most three literals. They are searched for by two or three bytes of each,
+    /// As `new`, or `None` if the plan has at most three literals. They are searched for by one to three bytes of each,
     /// whatever the text.
     pub fn new_unless_few(
         alloc: Global,
@@ -87,233 +85,62 @@ impl EndFinder {
         self.strategy.engine()
     }
 
-    /// The first position of the text after `from` at which some literal ends, wherever it begins, or `None`. It takes
-    /// no memory.
-    pub fn next_end(&mut self, compiled: &Compiled, text: &[u8], from: usize) -> Option<usize>
-        requires { self.old ≡ compiled.now.literals }
-        ensures same { self.new ≡ self.old }
-        ensures next { MatchOption result
-            (NoEndAfter compiled.now.literals text.now from)
-            (IsNextEnd compiled.now.literals text.now from) }
-    {
-        self.next_end_of(&mut TextSearch::new(compiled, text), from)
-    }
-
-    /// The first position of a search's text after `from` at which some literal ends, wherever it begins, or `None`. As
-    /// `next_end` of the text, but faster for one end after another. It takes no memory.
+    /// The first position of a search's text after `from` at which some literal ends, wherever it begins, or `None`. It
+    /// takes no memory.
     pub fn next_end_of(&mut self, search: &mut TextSearch<'_>, from: usize) -> Option<usize>
         requires { self.old ≡ search.old.plan.literals }
         ensures same { self.new ≡ self.old }
         ensures search { search.new ≡ search.old }
-        ensures next { MatchOption result
-            (NoEndAfter search.old.plan.literals search.old.text from)
-            (IsNextEnd search.old.plan.literals search.old.text from) }
+        ensures next { FindsNext search.old.plan.literals search.old.text from result }
     {
         let text = search.text();
-        let compiled = search.compiled();
-        let start = compiled.index().skip_short_ends(from);
-        if start >= text.len() {
+        if from >= text.len() {
             return None;
         }
-        self.learn_if_due(compiled, text, start, Wanted::Ends);
-        match self.next_after_start(search, start) {
-            Some((end, _)) => Some(end),
-            None => None,
-        }
+        self.learn_if_due(search.compiled(), text, from, Wanted::Ends);
+        self.next_by_engine(search, from)
     }
 
     /// As `next_end_of`, by the engine in use.
-    fn next_after_start(
-        &mut self,
-        search: &mut TextSearch<'_>,
-        from: usize,
-    ) -> Option<(usize, usize)>
+    fn next_by_engine(&mut self, search: &mut TextSearch<'_>, from: usize) -> Option<usize>
         requires plan { self.old ≡ search.old.plan.literals }
         requires inside { from < length search.old.text }
         ensures same { self.new ≡ self.old }
         ensures search { search.new ≡ search.old }
-        ensures next { MatchOption result
-            (NoEndAfter search.old.plan.literals search.old.text from)
-            (λ found. IsNextEnd search.old.plan.literals search.old.text from found.0) }
+        ensures next { FindsNext search.old.plan.literals search.old.text from result }
     {
-        match self.engine() {
-            Engine::Factors => self.next_by_factors(search, from),
-            Engine::ShiftOr => self.next_by_shift_or(search.compiled(), search.text(), from),
-            Engine::Automaton | Engine::Plan => self.next_by_plan(search, from),
-        }
-    }
-
-    /// As `next_end_of`, by the plan.
-    fn next_by_plan(&mut self, search: &mut TextSearch<'_>, from: usize) -> Option<(usize, usize)>
-        requires plan { self.old ≡ search.old.plan.literals }
-        requires inside { from ≤ length search.old.text }
-        ensures same { self.new ≡ self.old }
-        ensures search { search.new ≡ search.old }
-        ensures next { MatchOption result
-            (NoEndAfter search.old.plan.literals search.old.text from)
-            (λ found. IsNextEnd search.old.plan.literals search.old.text from found.0) }
-    {
-        let before = search.missed();
-        let found = search.next_after(from);
-        let missed = search.missed().saturating_sub(before);
-        let count = passed(search.text(), from, found);
-        self.strategy
-            .note(count, cost_by_plan(missed, 0), rate_of(found));
-        found
-    }
-
-    /// The hits of a text that end after `from`, as `scan_after` gives them. It may tune itself before each span of
-    /// the text. The only refusal is `OutOfMemory`.
-    pub fn scan_after(
-        &mut self,
-        alloc: Global,
-        compiled: &Compiled,
-        text: &[u8],
-        from: usize,
-    ) -> Result<Vec<Hit>, Fault>
-        requires plan { self.old ≡ compiled.now.literals }
-        requires inside { from ≤ length text.now }
-        ensures same { self.new ≡ self.old }
-        ensures ok { IfOk result (λ hits. AreHitsAfter compiled.now.literals text.now from from hits.items) }
-        ensures continues { IfOk result (λ hits. Continues compiled.now.literals text.now from hits.items) }
-        ensures refused { IsOkUnless result OutOfMemory }
-
-        // Where nothing ends after the position, it takes no memory.
-        ensures quiet { NoEndAfter compiled.now.literals text.now from → IsOk result }
-    {
-        let _carry = compiled.carry();
-        let mut hits = Vec::new(alloc);
-        self.add_spans(compiled, text, from, usize::MAX, &mut hits)?;
-        Ok(hits)
-    }
-
-    /// Adds the hits of a text that end after `from`, up to the first end by which `out` gained at least `most` hits, as
-    /// `scan_until` does. It tunes itself on the way, before each span of the text. When memory is refused, `out` is
-    /// unchanged.
-    pub fn add_spans(
-        &mut self,
-        compiled: &Compiled,
-        text: &[u8],
-        from: usize,
-        most: usize,
-        out: &mut Vec<Hit>,
-    ) -> Result<usize, AllocError>
-        requires plan { self.old ≡ compiled.now.literals }
-        requires inside { from ≤ length text.now }
-        ensures same { self.new ≡ self.old }
-        ensures ok { IfOk result (λ stop. StopsAt compiled.now.literals text.now from from most stop out.old.items out.new.items) }
-        ensures same_hits { OnErr result (out.new.items ≡ out.old.items) }
-        ensures quiet { NoEndAfter compiled.now.literals text.now from → IsOk result }
-    {
-        let before = out.len();
-        let mut place = from;
-        'spans: while place < text.len() {
-            self.learn_if_sure(compiled, text, place);
-            let stop = text
-                .len()
-                .min(place.saturating_add(span_after(place - from)));
-            let (prefix, _) = text.split_at(stop);
-            let left = most - (out.len() - before);
-            match self.add_hits(compiled, prefix, place, place as u64, left, out) {
-                Ok(end) => place = end,
-                Err(refused) => {
-                    out.truncate(before);
-                    return Err(refused);
-                }
-            }
-            if out.len() - before >= most {
-                return Ok(place);
-            }
-        }
-        Ok(text.len())
-    }
-
-    /// Adds hits by the plan, as `add_hits` does.
-    fn add_hits_by_plan(
-        &mut self,
-        compiled: &Compiled,
-        text: &[u8],
-        from: usize,
-        at: u64,
-        most: usize,
-        out: &mut Vec<Hit>,
-    ) -> Result<usize, AllocError>
-        requires plan { self.old ≡ compiled.now.literals }
-        requires inside { from ≤ length text.now }
-        requires room { at + (length text.now - from) < 2 ^ 64 }
-        ensures same { self.new ≡ self.old }
-        ensures ok { IfOk result (λ stop. StopsAt compiled.now.literals text.now from at most stop out.old.items out.new.items) }
-        ensures same_hits { OnErr result (out.new.items ≡ out.old.items) }
-        ensures quiet { NoEndAfter compiled.now.literals text.now from → IsOk result }
-    {
-        let mut ends = compiled.ends_after(text, from);
-        let stop = add_hits_of(&mut ends, text, from, at, most, out)?;
-        let tally = ends.tally();
-        let spent = cost_by_plan(tally.passed, tally.ends);
-        self.strategy
-            .note(stop - from, spent, EndRate::of_scan(tally.ends));
-        Ok(stop)
-    }
-
-    /// Adds hits by factors, as `add_hits` does, or by the plan if there are none.
-    fn add_hits_by_factors(
-        &mut self,
-        compiled: &Compiled,
-        text: &[u8],
-        from: usize,
-        at: u64,
-        most: usize,
-        out: &mut Vec<Hit>,
-    ) -> Result<usize, AllocError>
-        requires plan { self.old ≡ compiled.now.literals }
-        requires inside { from ≤ length text.now }
-        requires room { at + (length text.now - from) < 2 ^ 64 }
-        ensures same { self.new ≡ self.old }
-        ensures ok { IfOk result (λ stop. StopsAt compiled.now.literals text.now from at most stop out.old.items out.new.items) }
-        ensures same_hits { OnErr result (out.new.items ≡ out.old.items) }
-        ensures quiet { NoEndAfter compiled.now.literals text.now from → IsOk result }
-    {
-        let Some(factors) = &self.factors else {
-            return self.add_hits_by_plan(compiled, text, from, at, most, out);
-        };
-        let mut ends = FactorEnds::after(factors, text, from);
-        let stop = add_hits_of(&mut ends, text, from, at, most, out)?;
-        let tally = ends.tally();
-        let found = EndRate::of_scan(tally.ends);
-        let spent = factors.cost_of(stop - from, tally, found);
-        self.strategy.note(stop - from, spent, found);
-        Ok(stop)
-    }
-
-    /// As `next_end_of`, by factors, or by the plan if there are none.
-    fn next_by_factors(
-        &mut self,
-        search: &mut TextSearch<'_>,
-        from: usize,
-    ) -> Option<(usize, usize)>
-        requires plan { self.old ≡ search.old.plan.literals }
-        requires inside { from ≤ length search.old.text }
-        ensures same { self.new ≡ self.old }
-        ensures search { search.new ≡ search.old }
-        ensures next { MatchOption result
-            (NoEndAfter search.old.plan.literals search.old.text from)
-            (λ found. IsNextEnd search.old.plan.literals search.old.text from found.0) }
-    {
-        let Some(factors) = &self.factors else {
-            return self.next_by_plan(search, from);
-        };
         let text = search.text();
-        let mut ends = FactorEnds::after(factors, text, from);
-        let found = ends.next_end();
-        let tally = ends.tally();
-        let count = passed(text, from, found);
-        let spent = factors.cost_of(count, tally, rate_of(found));
-        self.strategy.note(count, spent, rate_of(found));
-        found
+        match (self.engine(), &self.factors) {
+            (Engine::Factors, Some(factors)) => {
+                let mut ends = FactorEnds::after(factors, text, from);
+                let found = next_of(&mut ends);
+                let (count, rate) = passed(text, from, found);
+                let spent = factors.cost_of(count, ends.tally(), rate);
+                self.strategy.note(count, spent, rate);
+                found
+            }
+            (Engine::ShiftOr, _) => {
+                let mut ends = ShiftedEnds::after(&self.shift_or, text, from);
+                let found = next_of(&mut ends);
+                let (count, rate) = passed(text, from, found);
+                let spent = self.shift_or.cost_of(count, ends.tally().marked, rate);
+                self.strategy.note(count, spent, rate);
+                found
+            }
+            _ => {
+                let before = search.missed();
+                let found = search.next_end(from);
+                let (count, rate) = passed(text, from, found);
+                let missed = search.missed().saturating_sub(before);
+                self.strategy.note(count, cost_by_plan(missed, 0), rate);
+                found
+            }
+        }
     }
 
-    /// Adds hits by shift-or, as `add_hits` does.
-    fn add_hits_by_shift_or(
+    /// Adds hits by the automaton, as `add_hits` does, or by the plan if the automaton is not made. It stands alone
+    /// because its readings take 8 KiB of the stack.
+    fn add_by_automaton(
         &mut self,
         compiled: &Compiled,
         text: &[u8],
@@ -326,62 +153,10 @@ impl EndFinder {
         requires inside { from ≤ length text.now }
         requires room { at + (length text.now - from) < 2 ^ 64 }
         ensures same { self.new ≡ self.old }
-        ensures ok { IfOk result (λ stop. StopsAt compiled.now.literals text.now from at most stop out.old.items out.new.items) }
-        ensures same_hits { OnErr result (out.new.items ≡ out.old.items) }
-        ensures quiet { NoEndAfter compiled.now.literals text.now from → IsOk result }
-    {
-        let mut ends = ShiftedEnds::after(&self.shift_or, text, from);
-        let stop = add_hits_of(&mut ends, text, from, at, most, out)?;
-        let tally = ends.tally();
-        let found = EndRate::of_scan(tally.ends);
-        let spent = self.shift_or.cost_of(stop - from, tally.marked, found);
-        self.strategy.note(stop - from, spent, found);
-        Ok(stop)
-    }
-
-    /// As `next_end`, by shift-or.
-    fn next_by_shift_or(
-        &mut self,
-        compiled: &Compiled,
-        text: &[u8],
-        from: usize,
-    ) -> Option<(usize, usize)>
-        requires plan { self.old ≡ compiled.now.literals }
-        requires inside { from < length text.now }
-        ensures same { self.new ≡ self.old }
-        ensures next { MatchOption result
-            (NoEndAfter compiled.now.literals text.now from)
-            (λ found. IsNextEnd compiled.now.literals text.now from found.0) }
-    {
-        let mut ends = ShiftedEnds::after(&self.shift_or, text, from);
-        let found = ends.next_end();
-        let count = passed(text, from, found);
-        let marked = ends.tally().marked;
-        let spent = self.shift_or.cost_of(count, marked, rate_of(found));
-        self.strategy.note(count, spent, rate_of(found));
-        found
-    }
-
-    /// Adds hits by the automaton, as `add_hits` does, or by the plan if the automaton is not made.
-    fn add_hits_by_automaton(
-        &mut self,
-        compiled: &Compiled,
-        text: &[u8],
-        from: usize,
-        at: u64,
-        most: usize,
-        out: &mut Vec<Hit>,
-    ) -> Result<usize, AllocError>
-        requires plan { self.old ≡ compiled.now.literals }
-        requires inside { from ≤ length text.now }
-        requires room { at + (length text.now - from) < 2 ^ 64 }
-        ensures same { self.new ≡ self.old }
-        ensures ok { IfOk result (λ stop. StopsAt compiled.now.literals text.now from at most stop out.old.items out.new.items) }
-        ensures same_hits { OnErr result (out.new.items ≡ out.old.items) }
-        ensures quiet { NoEndAfter compiled.now.literals text.now from → IsOk result }
+        ensures hits { AddsHits compiled.now.literals text.now from at most out.old.items out.new.items result }
     {
         let Some(mut ends) = AutomatonEnds::after(&self.automaton, text, from) else {
-            return self.add_hits_by_plan(compiled, text, from, at, most, out);
+            return PlainSearch.add_hits(compiled, text, from, at, most, out);
         };
         let stop = add_hits_of(&mut ends, text, from, at, most, out)?;
         let found = ends.ends();
@@ -511,12 +286,66 @@ impl HitSearch for EndFinder {
         out: &mut Vec<Hit>,
     ) -> Result<usize, AllocError> {
         self.learn_if_due(compiled, text, from, Wanted::Hits);
-        match self.strategy.engine_for(text.len() - from) {
-            Engine::Factors => self.add_hits_by_factors(compiled, text, from, at, most, out),
-            Engine::ShiftOr => self.add_hits_by_shift_or(compiled, text, from, at, most, out),
-            Engine::Automaton => self.add_hits_by_automaton(compiled, text, from, at, most, out),
-            Engine::Plan => self.add_hits_by_plan(compiled, text, from, at, most, out),
+        match (self.strategy.engine_for(text.len() - from), &self.factors) {
+            (Engine::Automaton, _) => self.add_by_automaton(compiled, text, from, at, most, out),
+            (Engine::Factors, Some(factors)) => {
+                let mut ends = FactorEnds::after(factors, text, from);
+                let stop = add_hits_of(&mut ends, text, from, at, most, out)?;
+                let found = EndRate::of_scan(ends.tally().ends);
+                let spent = factors.cost_of(stop - from, ends.tally(), found);
+                self.strategy.note(stop - from, spent, found);
+                Ok(stop)
+            }
+            (Engine::ShiftOr, _) => {
+                let mut ends = ShiftedEnds::after(&self.shift_or, text, from);
+                let stop = add_hits_of(&mut ends, text, from, at, most, out)?;
+                let tally = ends.tally();
+                let found = EndRate::of_scan(tally.ends);
+                let spent = self.shift_or.cost_of(stop - from, tally.marked, found);
+                self.strategy.note(stop - from, spent, found);
+                Ok(stop)
+            }
+            _ => {
+                let mut ends = compiled.ends_after(text, from);
+                let stop = add_hits_of(&mut ends, text, from, at, most, out)?;
+                let found = EndRate::of_scan(ends.tally().ends);
+                let spent = cost_by_plan(ends.tally().passed, found.ends);
+                self.strategy.note(stop - from, spent, found);
+                Ok(stop)
+            }
         }
+    }
+
+    /// It may tune itself before each span.
+    fn add_spans(
+        &mut self,
+        compiled: &Compiled,
+        text: &[u8],
+        from: usize,
+        most: usize,
+        out: &mut Vec<Hit>,
+    ) -> Result<usize, AllocError> {
+        let before = out.len();
+        let mut place = from;
+        'spans: while place < text.len() {
+            self.learn_if_sure(compiled, text, place);
+            let stop = text
+                .len()
+                .min(place.saturating_add(span_after(place - from)));
+            let (prefix, _) = text.split_at(stop);
+            let left = most - (out.len() - before);
+            match self.add_hits(compiled, prefix, place, place as u64, left, out) {
+                Ok(end) => place = end,
+                Err(refused) => {
+                    out.truncate(before);
+                    return Err(refused);
+                }
+            }
+            if out.len() - before >= most {
+                return Ok(place);
+            }
+        }
+        Ok(text.len())
     }
 }
 
@@ -530,15 +359,8 @@ fn factors_of(alloc: Global, compiled: &Compiled) -> Result<Option<Factors>, All
     Ok(Some(Factors::new(alloc, compiled.shared_index()?)?))
 }
 
-/// The rate that a search for one end adds.
-fn rate_of(found: Option<(usize, usize)>) -> EndRate {
-    EndRate::of_searches(usize::from(found.is_some()))
-}
-
-/// How many bytes after `from` a search has passed.
-fn passed(text: &[u8], from: usize, found: Option<(usize, usize)>) -> usize {
-    match found {
-        Some((end, _)) => end.saturating_sub(from),
-        None => text.len().saturating_sub(from),
-    }
+/// How many bytes after `from` a search for one end has passed, and the rate that it adds.
+fn passed(text: &[u8], from: usize, found: Option<usize>) -> (usize, EndRate) {
+    let count = found.unwrap_or(text.len()).saturating_sub(from);
+    (count, EndRate::of_searches(usize::from(found.is_some())))
 }

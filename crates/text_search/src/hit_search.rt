@@ -1,8 +1,7 @@
 //! Searches for the hits of a text: by a plan alone, or by a finder.
-ghost use Rattle.std.specs.Prelude.{◌≡◌, ◌+◌, ◌-◌, ◌^◌, ◌<◌, ◌≤◌, IfOk, IsOk, OnErr, length};
-ghost use Rattle.lit_base.specs.NextEnds.{NoEndAfter};
+ghost use Rattle.std.specs.Prelude.{◌≡◌, ◌+◌, ◌-◌, ◌^◌, ◌<◌, ◌≤◌, length};
 ghost use Rattle.lit_base.specs.Literals.{Literals};
-ghost use Rattle.text_ends.specs.HitsAfter.{StopsAt};
+ghost use Rattle.text_search.specs.Searched.{AddsHits};
 
 use lit_plan::Compiled;
 use std::alloc::AllocError;
@@ -29,9 +28,24 @@ pub trait HitSearch {
         requires inside { from ≤ length text.now }
         requires room { at + (length text.now - from) < 2 ^ 64 }
         ensures plan { serves self.new compiled.now.literals }
-        ensures ok { IfOk result (λ stop. StopsAt compiled.now.literals text.now from at most stop out.old.items out.new.items) }
-        ensures same_hits { OnErr result (out.new.items ≡ out.old.items) }
-        ensures quiet { NoEndAfter compiled.now.literals text.now from → IsOk result };
+        ensures hits { AddsHits compiled.now.literals text.now from at most out.old.items out.new.items result };
+
+    /// As `add_hits`, in a text that is whole in memory and counts from 0. So it may tune itself on the way.
+    fn add_spans(
+        &mut self,
+        compiled: &Compiled,
+        text: &[u8],
+        from: usize,
+        most: usize,
+        out: &mut Vec<Hit>,
+    ) -> Result<usize, AllocError>
+        requires plan { serves self.old compiled.now.literals }
+        requires inside { from ≤ length text.now }
+        ensures plan { serves self.new compiled.now.literals }
+        ensures hits { AddsHits compiled.now.literals text.now from from most out.old.items out.new.items result }
+    {
+        self.add_hits(compiled, text, from, from as u64, most, out)
+    }
 }
 
 /// The search by a plan alone.

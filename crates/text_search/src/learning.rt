@@ -27,6 +27,20 @@ impl HitSearch for Option<EndFinder> {
             None => PlainSearch.add_hits(compiled, text, from, at, most, out),
         }
     }
+
+    fn add_spans(
+        &mut self,
+        compiled: &Compiled,
+        text: &[u8],
+        from: usize,
+        most: usize,
+        out: &mut Vec<Hit>,
+    ) -> Result<usize, AllocError> {
+        match self {
+            Some(finder) => finder.add_spans(compiled, text, from, most, out),
+            None => PlainSearch.add_spans(compiled, text, from, most, out),
+        }
+    }
 }
 
 /// Makes a finder, if there is none, once `count` bytes were searched or are about to be, and these are many. There is

@@ -7,7 +7,6 @@ mod hit_search;
 mod learning;
 mod prices;
 mod sampling;
-mod searching;
 mod strategy;
 mod text_search;
 mod tuning;
@@ -15,9 +14,8 @@ mod tuning;
 pub use end_finder::EndFinder;
 pub use hit_search::{HitSearch, PlainSearch};
 pub use learning::make_if_long;
-pub use searching::next_end;
 pub use strategy::Engine;
-pub use text_search::TextSearch;
+pub use text_search::{TextSearch, next_end};
 pub use tuning::{LEAST_LEARNED, LEAST_SAMPLE};
 
 #[cfg(test)]

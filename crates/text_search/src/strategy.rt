@@ -3,9 +3,9 @@
 //! | question | when | depends on | function |
 //! |---|---|---|---|
 //! | Does the list need a finder, and has it factors? | once | the number of literals | [`has_use`], [`has_factors`] |
-//! | Which engine searches the next bytes? | before a span or a piece | the engine in use, the bytes available | [`Strategy::engine_for`] |
-//! | Tune now, or gather bytes first? | before each search | the loss, the bytes available | [`Strategy::step`], [`Strategy::tunes_before`] |
-//! | Which engines are worth preparing, and from how much text? | when it tunes | the number of literals, the estimates so far | [`sample_len`], [`wants_shift_or`], [`wants_automaton`] |
+//! | Which engine searches the next bytes, and how many of them? | before a span or a piece | the engine in use, the bytes available | [`Strategy::engine_for`], [`span_after`] |
+//! | Tune now, or gather bytes first? | before each search | the loss, the bytes available, the number of literals | [`Strategy::step`], [`Strategy::tunes_before`], [`least_gathered`] |
+//! | Which engines are worth preparing, and from how much text? | when it tunes | the number of literals, the estimates so far | [`sample_len`], [`wants_automaton_first`], [`wants_shift_or`], [`wants_automaton`] |
 //! | Which engine is best? | after tuning | the estimates | [`Strategy::choose`] |
 
 ghost use Rattle.std.specs.Prelude.{◌<◌, ◌↔◌, IsTrue};
@@ -52,7 +52,7 @@ pub(crate) enum Step {
     Tune,
 }
 
-/// Whether a list of `len` literals gains by a finder. A shorter list is searched for by two or three bytes of each
+/// Whether a list of `len` literals gains by a finder. A shorter list is searched for by one to three bytes of each
 /// literal, whatever the text.
 pub(crate) fn has_use(len: usize) -> bool
     ensures { IsTrue result ↔ (3 < len) }

@@ -1,21 +1,19 @@
 //! A search of one text, for one end after another.
-ghost use Rattle.std.specs.Prelude.{◌≡◌, ◌≤◌, MatchOption, length};
-ghost use Rattle.lit_base.specs.NextEnds.{IsNextEnd, NoEndAfter};
+ghost use Rattle.std.specs.Prelude.{◌≡◌};
+ghost use Rattle.text_ends.specs.Walks.{HasGoneOn};
+ghost use Rattle.text_search.specs.Searched.{FindsNext};
 
-use lane_filter::Candidates;
 use lit_plan::Compiled;
-use prefilter_search::next_verified;
+use prefilter_search::PrefilteredEnds;
 use std::marker::Model;
-use text_ends::Tally;
+use text_ends::Ends;
 
 /// A search of one text for the literals of a plan, for one end after another. A search from a later position uses the
 /// filter results that it already has.
 #[derive(Drop)]
 pub struct TextSearch<'a> {
     compiled: &'a Compiled,
-    text: &'a [u8],
-    candidates: Candidates<'a>,
-    tally: Tally,
+    ends: PrefilteredEnds<'a>,
 }
 
 impl<'a> Model for TextSearch<'a> {
@@ -24,13 +22,10 @@ impl<'a> Model for TextSearch<'a> {
     ghost Value = { Searched };
 
     ghost use Rattle.std.specs.Prelude.{◌≡◌};
-    ghost use Rattle.nib_mask.specs.Candidates.{CoversBy};
-    ghost use Rattle.lane_filter.specs.Prefilters.{Passes};
 
-    ghost view = { λ s. record { plan = s.compiled.now; text = s.text.now } };
+    ghost view = { λ s. record { plan = s.compiled.now; text = s.ends.text } };
 
-    ghost invariant = { λ s. CoversBy s.compiled.now.literals (Passes s.candidates.prefilter)
-        × (s.candidates.text ≡ s.text.now) };
+    ghost invariant = { λ s. s.ends.literals ≡ s.compiled.now.literals };
 }
 
 impl<'a> TextSearch<'a> {
@@ -38,49 +33,24 @@ impl<'a> TextSearch<'a> {
     pub fn new(compiled: &'a Compiled, text: &'a [u8]) -> TextSearch<'a>
         ensures { result ≡ record { plan = compiled.now; text = text.now } }
     {
-        let candidates = Candidates::new(compiled.prefilter(), text, 0);
         TextSearch {
             compiled,
-            text,
-            candidates,
-            tally: Tally::nothing(),
+            ends: compiled.ends_after(text, 0),
         }
     }
 
     /// The first position of the text after `from` at which some literal ends, wherever it begins, or `None`. It takes
     /// no memory.
+    #[inline]
     pub fn next_end(&mut self, from: usize) -> Option<usize>
         ensures same { self.new ≡ self.old }
-        ensures next { MatchOption result
-            (NoEndAfter self.old.plan.literals self.old.text from)
-            (IsNextEnd self.old.plan.literals self.old.text from) }
+        ensures next { FindsNext self.old.plan.literals self.old.text from result }
     {
-        let start = self.compiled.index().skip_short_ends(from);
-        if start >= self.text.len() {
+        if from >= self.text().len() {
             return None;
         }
-        match self.next_after(start) {
-            Some((end, _)) => Some(end),
-            None => None,
-        }
-    }
-
-    /// As `next_end`, after a position within the text, with the first literal that ends at the position found.
-    #[inline]
-    pub(crate) fn next_after(&mut self, from: usize) -> Option<(usize, usize)>
-        requires { from ≤ length self.old.text }
-        ensures same { self.new ≡ self.old }
-        ensures next { MatchOption result
-            (NoEndAfter self.old.plan.literals self.old.text from)
-            (λ found. IsNextEnd self.old.plan.literals self.old.text from found.0) }
-    {
-        self.candidates.skip_to(from);
-        next_verified(
-            self.compiled.index(),
-            self.text,
-            &mut self.candidates,
-            &mut self.tally,
-        )
+        self.ends.skip_to(from);
+        next_of(&mut self.ends)
     }
 
     /// The plan.
@@ -94,11 +64,31 @@ impl<'a> TextSearch<'a> {
     pub(crate) fn text(&self) -> &'a [u8]
         ensures { result.now ≡ self.now.text }
     {
-        self.text
+        self.ends.text()
     }
 
     /// How many false positives the search has found so far.
     pub(crate) fn missed(&self) -> usize {
-        self.tally.passed
+        self.ends.tally().passed
+    }
+}
+
+/// The first position of the text after `from` at which some literal ends, wherever it begins, or `None`, by the plan
+/// alone. It takes no memory.
+pub fn next_end(compiled: &Compiled, text: &[u8], from: usize) -> Option<usize>
+    ensures { FindsNext compiled.now.literals text.now from result }
+{
+    TextSearch::new(compiled, text).next_end(from)
+}
+
+/// The next end of a walk.
+#[inline(always)]
+pub(crate) fn next_of<E: Ends>(ends: &mut E) -> Option<usize>
+    ensures next { let before = E.walk ends.old in FindsNext before.literals before.text before.from result }
+    ensures moved { HasGoneOn (E.walk ends.old) (E.walk ends.new) }
+{
+    match ends.next_end() {
+        Some((end, _)) => Some(end),
+        None => None,
     }
 }

@@ -5,7 +5,7 @@
 
 // Literals.
 
-/// Literals. A list of at most this length has no finder: two or three bytes of each leave few false positives.
+/// Literals. A list of at most this length has no finder: one to three bytes of each leave few false positives.
 /// Not varied.
 pub(crate) const MOST_WITHOUT_FINDER: usize = 3;
 

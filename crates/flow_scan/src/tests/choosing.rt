@@ -14,7 +14,7 @@ use shift_search::{ShiftOr, ShiftedEnds};
 use std::alloc::Global;
 use text_automaton::{Automaton, AutomatonEnds};
 use text_ends::{EndRate, Ends};
-use text_search::{EndFinder, next_end};
+use text_search::{EndFinder, TextSearch, next_end};
 
 /// The position that a search has reached, and its ends so far.
 type Progress = (usize, Summary);
@@ -48,7 +48,7 @@ fn by_learning(
 {
     let (mut from, mut summary) = progress;
     'ends: for _ in 0..count {
-        let Some(end) = finder.next_end(compiled, text, from) else {
+        let Some(end) = finder.next_end_of(&mut TextSearch::new(compiled, text), from) else {
             return (text.len(), summary);
         };
         summary = with_end(summary, end);

@@ -8,7 +8,7 @@ use lit_base::{Fold, LitList, Profile, RawList};
 use lit_plan::Compiled;
 use run_planner::plan;
 use std::alloc::Global;
-use text_search::{EndFinder, Engine, next_end};
+use text_search::{EndFinder, Engine, TextSearch, next_end};
 
 /// The words of texts.
 pub(super) const WORDS: [&[u8]; 12] = [
@@ -148,7 +148,7 @@ fn add_learned(
     let mut summary = summary;
     let mut from = 0;
     'ends: for _ in 0..=text.len() {
-        let Some(end) = finder.next_end(compiled, text, from) else {
+        let Some(end) = finder.next_end_of(&mut TextSearch::new(compiled, text), from) else {
             return summary;
         };
         summary = with_end(summary, end);
@@ -286,8 +286,8 @@ fn finds_them_in_texts_of_few_bytes(rt: HostRuntime) {
 pub(super) fn goes_over_to_factors(compiled: &Compiled, finder: &mut EndFinder, text: &[u8]) -> bool
     requires { finder.old ≡ compiled.now.literals }
 {
-    let first = finder.next_end(compiled, text, 0);
-    let second = finder.next_end(compiled, text, 0);
+    let first = finder.next_end_of(&mut TextSearch::new(compiled, text), 0);
+    let second = finder.next_end_of(&mut TextSearch::new(compiled, text), 0);
     first.is_none() && second.is_none() && finder.engine() == Engine::Factors
 }
 

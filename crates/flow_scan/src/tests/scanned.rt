@@ -1,7 +1,7 @@
 //! Scans by a finder and by the plan alone give the same hits.
 ghost use Rattle.std.specs.Prelude.{◌≡◌};
 
-use crate::scanning::scan_all;
+use crate::scanning::{scan_after, scan_all};
 use crate::tests::finding::{
     CAPITALS, Draws, FIGURES, WORDS, pieces_of, plan_of, plan_of_pieces, text_of,
 };
@@ -30,7 +30,7 @@ fn are_found(
     ensures { finder.new ≡ compiled.now.literals }
 {
     let start = from.min(text.len());
-    let hits = finder.scan_after(alloc, compiled, text, start).ok()?;
+    let hits = scan_after(finder, alloc, compiled, text, start).ok()?;
     let (_, after) = wanted.split_at_checked(wanted.len().checked_sub(hits.len())?)?;
     Some(hits.as_slice() == after && hits.len() == count_after(wanted, from))
 }

@@ -22,9 +22,9 @@ fn feed(
     ensures scan { scanner.new.plan ≡ scanner.old.plan }
     ensures finder { finder.new ≡ finder.old }
 {
-    let count = scanner.feed_learning(finder, piece, 100, hits).ok()?;
+    let count = scanner.feed_until(finder, piece, 100, hits).ok()?;
     let (_, rest) = piece.split_at(count);
-    scanner.feed_learning(finder, rest, usize::MAX, hits).ok()?;
+    scanner.feed_until(finder, rest, usize::MAX, hits).ok()?;
     Some(())
 }
 

@@ -1,6 +1,6 @@
 //! Where scans stop after enough hits.
 use super::{PRONOUNS, plan_of};
-use flow_scan::{Compiled, EndFinder, Scanner, scan_until};
+use flow_scan::{Compiled, EndFinder, PlainSearch, Scanner, scan_until};
 use lit_base::Fold;
 use std::alloc::Global;
 
@@ -11,7 +11,9 @@ type Stop = (usize, usize);
 fn by_feeding(alloc: Global, compiled: &Compiled, piece: &[u8], most: usize) -> Option<Stop> {
     let mut hits = Vec::new(alloc);
     let mut scanner = Scanner::new(alloc, compiled).ok()?;
-    let count = scanner.feed_until(piece, most, &mut hits).ok()?;
+    let count = scanner
+        .feed_until(&mut PlainSearch, piece, most, &mut hits)
+        .ok()?;
     Some((count, hits.len()))
 }
 
@@ -20,14 +22,14 @@ fn by_learning(alloc: Global, compiled: &Compiled, piece: &[u8], most: usize) ->
     let mut hits = Vec::new(alloc);
     let mut scanner = Scanner::new(alloc, compiled).ok()?;
     let mut finder = EndFinder::new(alloc, compiled).ok()?;
-    let fed = scanner.feed_learning(&mut finder, piece, most, &mut hits);
+    let fed = scanner.feed_until(&mut finder, piece, most, &mut hits);
     Some((fed.ok()?, hits.len()))
 }
 
 /// Where a scan stops in a text.
 fn by_scanning(alloc: Global, compiled: &Compiled, text: &[u8], most: usize) -> Option<Stop> {
     let mut hits = Vec::new(alloc);
-    let stop = scan_until(compiled, text, 0, most, &mut hits).ok()?;
+    let stop = scan_until(&mut PlainSearch, compiled, text, 0, most, &mut hits).ok()?;
     Some((stop, hits.len()))
 }
 

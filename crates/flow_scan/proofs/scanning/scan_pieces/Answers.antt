@@ -79,7 +79,7 @@ loop-piece-preserved c =
     record {
       plan = ap (λ (t : Scanning). t.plan) ok ∙ before.plan;
       small = fits (length (concat (bytes_of (take (i + 1) pieces)))) (λ long.
-          let refused : Ok c.in_ok-feed.field-0 ≡ Err StreamTooLong = c.in_ok-feed.ensures.too_long.1 (omega (arith, long, before.place, ap length joined, length-append text piece)) in
+          let refused : Ok c.in_ok-feed.field-0 ≡ Err StreamTooLong = c.in_ok-feed.ensures.refusals.too_long.1 (omega (arith, long, before.place, ap length joined, length-append text piece)) in
           (cc));
       place = omega (arith, ap (λ (t : Scanning). t.place) ok, before.place, ap length joined, length-append text piece);
       tail = ap (λ (t : Scanning). t.tail) ok ∙ tail_more s plan text piece before.plan before.tail ∙ ap (last_bytes (carry_of plan.literals)) joined;
@@ -96,8 +96,8 @@ returns-in_err-feed-clause-refused c =
     let joined : text ++ piece ≡ concat (bytes_of (take (i + 1) pieces)) =
     ap (λ ts. text ++ ts) c.deref.ensures.value ∙ sym (joined_more pieces i c.piece-item.result c.loop-piece-test.true c.piece-item.is) in
     let p = err_from_is_err_and c.from_residual-in_err-feed.result c.from_residual-in_err-feed.ensures.1 in
-    rw (p.1, p.2) (elim c.in_err-feed.ensures.faults [
-      | inl long ↦ inr (long, omega (arith, c.in_err-feed.ensures.too_long.0 (ap Err long), c.loop-piece.invariant.place, ap length joined, length-append text piece, joined_prefix pieces (i + 1)))
+    rw (p.1, p.2) (elim c.in_err-feed.ensures.refusals.faults [
+      | inl long ↦ inr (long, omega (arith, c.in_err-feed.ensures.refusals.too_long.0 (ap Err long), c.loop-piece.invariant.place, ap length joined, length-append text piece, joined_prefix pieces (i + 1)))
       | inr memory ↦ inl memory
     ])
 

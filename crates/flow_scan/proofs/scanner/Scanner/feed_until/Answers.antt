@@ -1,10 +1,8 @@
--- Nothing ends in the piece after the scan's tail, which is its progress's tail.
-use Rattle.std.proofs.Common.{◌++◌, length, subst, IsOkUnless}
-use Rattle.lit_base.specs.NextEnds.{NoEndAfter}
-use Rattle.flow_scan.specs.Scanners.{Scanning}
-use Rattle.lit_plan.specs.declared.fault.Fault.TheVariants.{StreamTooLong}
+-- The scan's state is its progress's.
+use Rattle.std.proofs.Common.{subst}
+use Rattle.flow_scan.specs.Scanners.{FeedsUpTo, Scanning, scanning}
 use Rattle.flow_scan.proofs.scanner.Scanner.feed_until.Goals as goal
 
-pub returns-clause-quiet : goal.returns-clause-quiet
-returns-clause-quiet c =
-    subst (λ (s : Scanning). NoEndAfter s.plan.literals (s.tail ++ c.args.piece.now) (length s.tail) → IsOkUnless c.feed_by.result StreamTooLong) c.self.view_is c.feed_by.ensures.quiet
+pub returns-clause-fed : goal.returns-clause-fed
+returns-clause-fed g c =
+    subst (λ (s : Scanning). FeedsUpTo s (scanning c.self.inside.compiled.now c.feed_by.new.self) c.args.piece.now c.args.most c.args.out.now.items c.feed_by.new.out.items c.feed_by.result) c.self.view_is c.feed_by.ensures.fed

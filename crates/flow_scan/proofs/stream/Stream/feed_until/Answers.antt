@@ -1,12 +1,16 @@
--- Nothing ends in the piece after the scan's tail, which is its progress's tail; the plan is the shared plan.
-use Rattle.std.proofs.Common.{◌++◌, length, ap, subst, IsOkUnless}
-use Rattle.lit_base.specs.NextEnds.{NoEndAfter}
+-- The plan is the shared plan, and the scan's state is its progress's.
+use Rattle.std.proofs.Common.{subst}
+use Rattle.std.specs.Arc.{arc_value}
 use Rattle.lit_plan.specs.Plans.{Plan}
-use Rattle.flow_scan.specs.Scanners.{Scanning}
-use Rattle.lit_plan.specs.declared.fault.Fault.TheVariants.{StreamTooLong}
+use Rattle.flow_scan.specs.Scanners.{FeedsUpTo, Scanning, scanning}
 use Rattle.flow_scan.proofs.stream.Stream.feed_until.Goals as goal
 
-pub returns-clause-quiet : goal.returns-clause-quiet
-returns-clause-quiet c =
-    subst (λ (s : Scanning). NoEndAfter s.plan.literals (s.tail ++ c.args.piece.now) (length s.tail) → IsOkUnless c.feed_by.result StreamTooLong) c.self.view_is
-    (rw (ap (λ (p : Plan). p.literals) c.deref-compiled.ensures) at c.feed_by.ensures.quiet)
+pub returns : goal.returns
+returns c =
+    let plan = arc_value c.self.inside.plan in
+    let new = c.feed_by.new.self in
+    let piece = c.args.piece.now in
+    let old = c.args.out.now.items in
+    let gained = c.feed_by.new.out.items in
+    subst (λ (s : Scanning). FeedsUpTo s (scanning plan new) piece c.args.most old gained c.feed_by.result) c.self.view_is
+    (subst (λ (p : Plan). FeedsUpTo (scanning p c.self.inside.progress) (scanning p new) piece c.args.most old gained c.feed_by.result) c.deref-compiled.ensures c.feed_by.ensures.fed)

@@ -1,14 +1,32 @@
--- Tuning changes no literal.
+-- Each walk is over the plan's literals, which tuning does not change.
+use Rattle.std.proofs.Common.{rules, ◌≡◌, Option, IfSome, ap, ◌∙◌, subst}
+use Rattle.std.proofs.lemmas.Bool.{false≢true}
+use Rattle.text_ends.specs.Walks.{Walk}
+use Rattle.factor_search.specs.Factors.{Factored}
 use Rattle.text_search.proofs.end_finder.EndFinderHitSearch.add_hits.Goals as goal
 
-pub returns-in-Factors-clause-quiet : goal.returns-in-Factors-clause-quiet
-returns-in-Factors-clause-quiet c = c.add_hits_by_factors.ensures.quiet
+pub returns-in_err-stop-in-Factors-Some-clause-hits : goal.returns-in_err-stop-in-Factors-Some-clause-hits
+returns-in_err-stop-in-Factors-Some-clause-hits c =
+    let same = subst (λ (o : Option Factored). IfSome o (λ w. w.literals ≡ c.self.inside.shift_or.literals)) c.in-Factors-Some.is-1 c.self.invariant.0 in
+    record {
+      ok = search rules;
+      same_hits = search rules;
+      quiet = λ none.
+          absurd (false≢true ((rw (ap (λ (w : Walk). w.literals) c.after-ends.ensures ∙ same ∙ c.self.view_is ∙ c.learn_if_due.ensures ∙ c.requires.plan) at c.in_err-stop-in-Factors-Some.ensures.quiet) none));
+    }
 
-pub returns-in-Plan-clause-quiet : goal.returns-in-Plan-clause-quiet
-returns-in-Plan-clause-quiet c = c.add_hits_by_plan.ensures.quiet
+pub returns-in_err-stop-in-ShiftOr-default-clause-hits : goal.returns-in_err-stop-in-ShiftOr-default-clause-hits
+returns-in_err-stop-in-ShiftOr-default-clause-hits c = record {
+  ok = search rules;
+  same_hits = search rules;
+  quiet = λ none.
+      absurd (false≢true ((rw (ap (λ (w : Walk). w.literals) c.after-ends-in-ShiftOr-default.ensures ∙ c.self.view_is ∙ c.learn_if_due.ensures ∙ c.requires.plan) at c.in_err-stop-in-ShiftOr-default.ensures.quiet) none));
+}
 
-pub returns-in-ShiftOr-clause-quiet : goal.returns-in-ShiftOr-clause-quiet
-returns-in-ShiftOr-clause-quiet c = c.add_hits_by_shift_or.ensures.quiet
-
-pub returns-in-Automaton-clause-quiet : goal.returns-in-Automaton-clause-quiet
-returns-in-Automaton-clause-quiet c = c.add_hits_by_automaton.ensures.quiet
+pub returns-in_err-stop-in_default-clause-hits : goal.returns-in_err-stop-in_default-clause-hits
+returns-in_err-stop-in_default-clause-hits c = record {
+  ok = search rules;
+  same_hits = search rules;
+  quiet = λ none.
+      absurd (false≢true ((rw (ap (λ (w : Walk). w.literals) c.ends_after-ends.ensures) at c.in_err-stop-in_default.ensures.quiet) none));
+}

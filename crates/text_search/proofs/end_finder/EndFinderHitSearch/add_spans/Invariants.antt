@@ -1,6 +1,6 @@
 use Rattle.std.proofs.Common.{◌≡◌, ◌+◌, ◌-◌, ◌≤◌, length, take}
 use Rattle.text_ends.specs.HitsAfter.{GainsHitsAfter}
-use Rattle.text_search.proofs.end_finder.EndFinder.add_spans.Given as goal
+use Rattle.text_search.proofs.end_finder.EndFinderHitSearch.add_spans.Given as goal
 
 -- the hits added are those up to the place reached
 abbrev pub invariant-spans : goal.invariant-spans

@@ -1,9 +1,0 @@
--- Where memory is refused, a hit was found: the walk is over the plan's literals.
-use Rattle.std.proofs.Common.{ap}
-use Rattle.std.proofs.lemmas.Bool.{false≢true}
-use Rattle.text_ends.specs.Walks.{Walk}
-use Rattle.flow_scan.proofs.until.scan_until.Goals as goal
-
-pub returns-in_err-stop-clause-quiet : goal.returns-in_err-stop-clause-quiet
-returns-in_err-stop-clause-quiet c = λ none.
-    absurd (false≢true ((rw (ap (λ (w : Walk). w.literals) c.ends_after-ends.ensures) at c.in_err-stop.ensures.quiet) none))

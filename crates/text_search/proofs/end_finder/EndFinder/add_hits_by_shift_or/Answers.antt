@@ -1,9 +1,0 @@
--- The walk is over the finder's literals, which are the plan's.
-use Rattle.std.proofs.Common.{ap, ◌∙◌}
-use Rattle.std.proofs.lemmas.Bool.{false≢true}
-use Rattle.text_ends.specs.Walks.{Walk}
-use Rattle.text_search.proofs.end_finder.EndFinder.add_hits_by_shift_or.Goals as goal
-
-pub returns-in_err-stop-clause-quiet : goal.returns-in_err-stop-clause-quiet
-returns-in_err-stop-clause-quiet c = λ none.
-    absurd (false≢true ((rw (ap (λ (w : Walk). w.literals) c.after-ends.ensures ∙ c.self.view_is ∙ c.requires.plan) at c.in_err-stop.ensures.quiet) none))
