@@ -268,20 +268,14 @@ impl ShiftOr {
         // A turn needs 32 more positions after a block of eight.
         let last_four = text.len().saturating_sub(5 * PLACES - 1);
         'fours: while at <= last_four {
-            let ahead = at + PLACES;
-            let now = four_probes::<STEP>(entries, text, ahead);
+            let next = at + PLACES;
+            let now = four_probes::<STEP>(entries, text, next);
             let ruled = now.with_those_before(before);
             before = now.after;
             at += 4 * PLACES;
             if lacking(ruled) != 0 {
                 let carried = last_of(before);
-                if let Some(found) = self.verify_four(
-                    text,
-                    ahead,
-                    ruled,
-                    carried,
-                    false_positives,
-                ) {
+                if let Some(found) = self.verify_four(text, next, ruled, carried, false_positives) {
                     *probes = found.probes;
                     return Some((found.end, found.first));
                 }
