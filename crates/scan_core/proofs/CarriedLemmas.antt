@@ -1,15 +1,14 @@
 -- What a session does by what its scanners keep, it does by all bytes that its streams were fed.
-use Rattle.std.proofs.Common.{◌≡◌, ℕ, ◌+◌, ◌-◌, ◌^◌, ◌<◌, Bool, true, false, cond, List, [], ◌∷◌, ◌++◌, length, map, get_or, Option, Some, None, MatchOption, Contains, inl, inr, refl, sym, ap, ◌∙◌, subst, arith, length-append}
+use Rattle.std.proofs.Common.{◌≡◌, ℕ, ◌+◌, ◌^◌, Bool, true, false, cond, List, [], ◌∷◌, ◌++◌, length, map, Option, Some, None, MatchOption, Contains, inl, inr, refl, sym, ap, ◌∙◌, subst, arith, length-append}
 use Rattle.std.specs.Prelude.{is_some, nat_eq, nat_le, if◌then◌else◌}
 use Rattle.std.specs.Map.{lookup, remove_entry, set_value}
-use Rattle.std.proofs.lemmas.List.{get_or-map, length-map}
-use Rattle.std.proofs.lemmas.Option.{get_or_from_slice_get, none-some, same_Some, slice_get_within}
-use Rattle.lit_base.specs.Literals.{IsNormal, Literals, lengths}
+use Rattle.std.proofs.lemmas.Option.{none-some, same_Some}
+use Rattle.lit_base.specs.Literals.{Literals}
 use Rattle.lit_base.specs.Occurrences.{Occurs}
-use Rattle.lit_base.proofs.LengthLemmas.{last_greatest}
 use Rattle.lit_plan.specs.Plans as plans
 use Rattle.flow_scan.specs.Tails.{AreAdded, last_bytes, tail_after}
 use Rattle.lit_plan.specs.Bounds.{HasBounds, carry_of}
+use Rattle.lit_plan.proofs.BoundLemmas.{bounds_of_normal}
 use Rattle.flow_scan.proofs.TailSteps.{added_after_all, last_of_last, last_of_short}
 use Rattle.scan_wire.specs.Messages.{RequestParts, Publish, Open, Feed, Close, ShowPlan}
 use Rattle.scan_core.specs.declared.limits.TheConstants.{MAX_STREAMS}
@@ -20,19 +19,6 @@ use Rattle.scan_core.specs.Refusals.{publish_refusal}
 use Rattle.scan_core.specs.Sessions.{Bound, by_tails}
 use Rattle.scan_core.specs.Steps.{AgreeWith, Entry, IsAccepted, Outcome, SessionParts, closed, known_entries, moved, refusal_of, refused, shown, stream_at, stream_refusal}
 use Rattle.scan_core.specs.Worlds.{AreHitsPast, Streamed, by_bytes}
-
--- Literals in normal form are no longer than the carry and one byte.
-pub bounds_of_normal : (l : Literals) → IsNormal l → HasBounds l
-bounds_of_normal l normal = record {
-  some = λ place literal stands.
-      subst (λ t. 0 < length t) (get_or_from_slice_get l.texts place literal literal stands) (normal.nonempty place literal (slice_get_within l.texts place literal stands));
-  fits = λ place literal stands.
-      let within : place < length l.texts = slice_get_within l.texts place literal stands in
-      let len : get_or (lengths l) place 0 ≡ length literal =
-      get_or-map length l.texts place literal 0 within ∙ ap length (get_or_from_slice_get l.texts place literal literal stands) in
-      let least = last_greatest l normal (get_or (lengths l) (length l.texts - 1) 0) refl place 0 (omega (arith, within, length-map l.texts length)) in
-      omega (arith, len, least);
-}
 
 -- two look-ups that agree
 abbrev Agree : Option Bound → Option Streamed → Type 0

@@ -3,7 +3,8 @@ use Rattle.std.proofs.Common.{◌≡◌, ℕ, ◌+◌, ◌^◌, ◌<◌, ◌≤�
 use Rattle.std.specs.Prelude.{nat_eq, nat_le, if◌then◌else◌}
 use Rattle.std.specs.Map.{lookup, set_value}
 use Rattle.std.specs.Option.{ok_or}
-use Rattle.std.proofs.lemmas.Bool.{cases_lt}
+use Rattle.std.proofs.lemmas.Bool.{cases_lt, eq-eqb}
+use Rattle.std.proofs.lemmas.Map.Steps.{set_value_same}
 use Rattle.std.proofs.lemmas.Bool.Decides.{nat_tests}
 use Rattle.std.proofs.Math.ListN.{set}
 use Rattle.std.proofs.lemmas.List.{append-nil, append_assoc, length-append}
@@ -23,7 +24,7 @@ use Rattle.scan_core.proofs.HitsExist.{hits_exist}
 use Rattle.scan_core.specs.Streams.{StandsAt}
 use Rattle.scan_core.proofs.StepLemmas.{a_stream, fed_too_long, no_stream, step_accepted}
 use Rattle.scan_core.proofs.StreamLemmas.{lookup_at, set_at}
-use Rattle.scan_core.proofs.StreamLists.{lookup_set, set_same, set_twice}
+use Rattle.scan_core.proofs.StreamLists.{lookup_set, set_twice, when_so}
 
 -- no bytes leave a scan as it is
 fed_none : (scan : Scanning) → IsKept scan → fed scan [] ≡ scan
@@ -70,14 +71,15 @@ feeding_none s stream piece place may = record {
   kept = may.kept;
   added = added_nothing may.state.scan.plan.literals may.state.scan.tail may.state.scan.place;
   is = sym (ap (λ (scan : Scanning). record s { streams = set_value (nat_eq stream) s.streams (record may.state { scan = scan }) }) (fed_none may.state.scan may.kept)
-      ∙ ap (λ streams. record s { streams = streams }) (set_same stream s.streams may.state may.here));
+      ∙ ap (λ streams. record s { streams = streams }) (set_value_same (nat_eq stream) s.streams may.state may.here));
 }
 
 -- the stream stands after the bytes that it was fed
 pub stands_after : (s t : Serving) (stream : ℕ) (bytes : List ℕ) (hits : List (ℕ × ℕ)) → (f : IsFeeding s stream bytes hits t) → stream_at stream (parts_of t) ≡ Some (record f.state { scan = fed f.state.scan bytes })
 stands_after s t stream bytes hits f =
+    let next : Bound = record f.state { scan = fed f.state.scan bytes } in
     ap (λ (u : Serving). lookup (nat_eq stream) u.streams) f.is
-    ∙ lookup_set stream s.streams f.state (record f.state { scan = fed f.state.scan bytes }) f.here
+    ∙ lookup_set stream stream s.streams f.state next f.here ∙ when_so (nat_eq stream stream) (Some next) (lookup (nat_eq stream) s.streams) (eq-eqb stream stream refl)
 
 -- the hits of the next bytes, added to the earlier hits, are the hits of all bytes that were fed
 both_added : (s t : Serving) (stream : ℕ) (bytes more : List ℕ) (hits rest : List (ℕ × ℕ)) → (f : IsFeeding s stream bytes hits t)

@@ -11,6 +11,7 @@ use Rattle.scan_core.specs.Steps.{Entry, IsSound, SessionParts}
 use Rattle.scan_core.specs.Together.{AgreeAll, Meet, ShowSound, TogetherLaw, known_to, tickets_of, world_of}
 use Rattle.scan_core.specs.Worlds.{Event, Happens, HasOnePlan, IsFirst, MeetsEntries, Runs, Streamed, World, is_publish}
 use Rattle.scan_core.proofs.TicketLemmas.{IsShown, shown_of}
+use Rattle.scan_core.proofs.WorldLemmas.{contains_cases, contains_more}
 
 -- a ticket of a plan that the session published
 pub published_at : (s : Serving) (place : ℕ) (t : TicketParts) → place < length s.published_plans → place < length (tickets_of s) → t ≡ get_or s.published_plans place t → slice_get (tickets_of s) place ≡ Some t
@@ -66,11 +67,6 @@ grown publishes None entries = entries
 grown true (Some entry) entries = entry ∷ entries
 grown false (Some entry) entries = entries
 
--- what stands first, or after it
-head_or_rest : (x e : Entry) (es : List Entry) (k : ℕ) → k < length (x ∷ es) → get_or (x ∷ es) k e ≡ e → (x ≡ e) ⊎ Contains es e
-head_or_rest x e es zero within at = inl at
-head_or_rest x e es (suc k) within at = inr (k, omega (arith, within), at)
-
 module _ (entries : List Entry) (one_plan : HasOnePlan entries) where
   -- the same entries, some perhaps more than once
   record IsSame (current : List Entry) : Type 0 where
@@ -90,8 +86,8 @@ module _ (entries : List Entry) (one_plan : HasOnePlan entries) where
   same_grown false None current same among = same
   same_grown false (Some entry) current same among = same
   same_grown true (Some entry) current same among = record {
-    all = λ e there. let h = same.all e there in (suc h.0, omega (arith, h.1), h.2);
-    no_others = λ e there. elim (head_or_rest entry e current there.0 there.1 there.2) [
+    all = λ e there. contains_more entry e current (same.all e there);
+    no_others = λ e there. elim (contains_cases entry e current there) [
       | inl first ↦ subst (Contains entries) first among
       | inr after ↦ same.no_others e after
     ];

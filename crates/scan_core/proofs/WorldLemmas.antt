@@ -20,7 +20,7 @@ use Rattle.scan_core.specs.declared.refusal.Refusal.{Refusal}
 use Rattle.scan_core.specs.declared.refusal.Refusal.TheVariants.{StreamInUse, StreamQuota}
 use Rattle.scan_core.specs.Steps.{Entry, IsAccepted, Outcome, SessionParts, closed, fed_replies, moved, opened, refusal_of, refused}
 use Rattle.scan_core.specs.Worlds.{AnswersByPast, AreHitsPast, Event, Happens, HasOnePlan, IsFirst, MeetsEntries, Past, Runs, Streamed, World, WorldLaw, by_bytes, is_accepted, is_publish, past_after, past_event, past_of}
-use Rattle.scan_core.proofs.StreamLists.{Apart, apart_pushed, apart_removed, apart_set, lookup_pushed, lookup_pushed_other, lookup_removed, lookup_removed_other, lookup_set, lookup_set_other, when_not, when_so}
+use Rattle.scan_core.proofs.StreamLists.{Apart, apart_none, apart_pushed, apart_removed, apart_set, lookup_pushed, lookup_removed, lookup_set, when_not, when_so}
 
 -- Entries
 
@@ -28,7 +28,7 @@ use Rattle.scan_core.proofs.StreamLists.{Apart, apart_pushed, apart_removed, apa
 contains_head : (x : Entry) (es : List Entry) → Contains (x ∷ es) x
 contains_head x es = (0, omega arith, refl)
 
-contains_more : (x e : Entry) (es : List Entry) → Contains es e → Contains (x ∷ es) e
+pub contains_more : (x e : Entry) (es : List Entry) → Contains es e → Contains (x ∷ es) e
 contains_more x e es h = (suc h.0, omega (arith, h.1), h.2)
 
 cases_at : (x e : Entry) (es : List Entry) (k : ℕ) → k < length (x ∷ es) → get_or (x ∷ es) k e ≡ e → (x ≡ e) ⊎ Contains es e
@@ -36,7 +36,7 @@ cases_at x e es zero within at = inl at
 cases_at x e es (suc k) within at = inr (k, omega (arith, within), at)
 
 -- an entry is the first one, or stands after it
-contains_cases : (x e : Entry) (es : List Entry) → Contains (x ∷ es) e → (x ≡ e) ⊎ Contains es e
+pub contains_cases : (x e : Entry) (es : List Entry) → Contains (x ∷ es) e → (x ≡ e) ⊎ Contains es e
 contains_cases x e es h = cases_at x e es h.0 h.1 h.2
 
 -- an entry stays
@@ -124,7 +124,7 @@ module _ (past : ℕ → Option Past) (es more : List Entry) (stay : (e : Entry)
     (λ n found at. elim (eqb_tells stream n) [
       | inl t ↦
           let here : lookup (nat_eq n) (before.streams ++ (stream, state) ∷ []) ≡ Some state =
-          ap (λ m. lookup (nat_eq m) (before.streams ++ (stream, state) ∷ [])) (sym t.1) ∙ lookup_pushed stream before.streams state free in
+          lookup_pushed n stream before.streams state free ∙ when_so (nat_eq stream n) (Some state) (lookup (nat_eq n) before.streams) t.0 in
           let is : found ≡ record { number = entry.number; plan = entry.plan; bytes = [] } = same_Some found state (sym at ∙ here) ∙ begins in
           record {
             entry = entry;
@@ -135,7 +135,8 @@ module _ (past : ℕ → Option Past) (es more : List Entry) (stay : (e : Entry)
             bytes = ap (λ (s : Streamed). s.bytes) is;
           }
       | inr f ↦
-          let old : lookup (nat_eq n) before.streams ≡ Some found = sym (lookup_pushed_other n stream before.streams state (λ e. f.1 (sym e))) ∙ at in
+          let old : lookup (nat_eq n) before.streams ≡ Some found =
+          sym (lookup_pushed n stream before.streams state free ∙ when_not (nat_eq stream n) (Some state) (lookup (nat_eq n) before.streams) f.0) ∙ at in
           known_like (past n) (next_past (Open stream number) (Opened stream ∷ []) past n) es more found found
           (when_not (nat_eq stream n) (Some record { number = number; pieces = [] }) (past n) f.0) refl stay (known n found old)
     ]),
@@ -150,7 +151,7 @@ module _ (past : ℕ → Option Past) (es more : List Entry) (stay : (e : Entry)
         elim (eqb_tells stream n) [
           | inl t ↦
               let here : lookup (nat_eq n) (set_value (nat_eq stream) before.streams next) ≡ Some next =
-              ap (λ m. lookup (nat_eq m) (set_value (nat_eq stream) before.streams next)) (sym t.1) ∙ lookup_set stream before.streams state next at_old in
+              lookup_set n stream before.streams state next at_old ∙ when_so (nat_eq stream n) (Some next) (lookup (nat_eq n) before.streams) t.0 in
               let is : found ≡ record state { bytes = state.bytes ++ piece } = same_Some found next (sym at ∙ here) ∙ moves in
               let old = known stream state at_old in
               let grown = option_map {T = Past} (λ (p : Past). record p { pieces = p.pieces ++ piece ∷ [] }) in
@@ -163,7 +164,8 @@ module _ (past : ℕ → Option Past) (es more : List Entry) (stay : (e : Entry)
                 bytes = ap (λ (s : Streamed). s.bytes) is ∙ ap (λ bs. bs ++ piece) old.bytes ∙ sym (concat_push old.pieces piece);
               }
           | inr f ↦
-              let old : lookup (nat_eq n) before.streams ≡ Some found = sym (lookup_set_other n stream before.streams next (λ e. f.1 (sym e))) ∙ at in
+              let old : lookup (nat_eq n) before.streams ≡ Some found =
+              sym (lookup_set n stream before.streams state next at_old ∙ when_not (nat_eq stream n) (Some next) (lookup (nat_eq n) before.streams) f.0) ∙ at in
               known_like (past n) (next_past (Feed stream piece) (fed_replies stream blocks place) past n) es more found found
               (taken ∙ when_not (nat_eq stream n) (option_map {T = Past} (λ (p : Past). record p { pieces = p.pieces ++ piece ∷ [] }) (past n)) (past n) f.0) refl stay (known n found old)
         ]),
@@ -175,9 +177,9 @@ module _ (past : ℕ → Option Past) (es more : List Entry) (stay : (e : Entry)
     (λ n found at. elim (eqb_tells stream n) [
       | inl t ↦
           let gone : lookup (nat_eq n) (remove_entry (nat_eq stream) before.streams) ≡ None =
-          ap (λ m. lookup (nat_eq m) (remove_entry (nat_eq stream) before.streams)) (sym t.1) ∙ lookup_removed stream before.streams apart in
+          lookup_removed n stream before.streams apart ∙ when_so (nat_eq stream n) None (lookup (nat_eq n) before.streams) t.0 in
           absurd (none-some found (sym gone ∙ at))
-      | inr f ↦ keeps_same n found (sym (lookup_removed_other n stream before.streams (λ e. f.1 (sym e))) ∙ at)
+      | inr f ↦ keeps_same n found (sym (lookup_removed n stream before.streams apart ∙ when_not (nat_eq stream n) None (lookup (nat_eq n) before.streams) f.0) ∙ at)
     ]),
     apart_removed stream before.streams apart,
   )
@@ -217,7 +219,7 @@ first_after : (world : World) → IsFirst world → IsAfter [] world
 first_after world first = record {
   one = first.one_plan;
   known = λ who n state at. absurd (none-some state (sym (ap (λ (s : SessionParts Streamed). lookup (nat_eq n) s.streams) (first.sessions who)) ∙ at));
-  apart = λ who. subst (λ (s : SessionParts Streamed). Apart s.streams) (sym (first.sessions who)) tt;
+  apart = λ who. subst (λ (s : SessionParts Streamed). Apart s.streams) (sym (first.sessions who)) (apart_none Streamed);
 }
 
 -- the session of an event

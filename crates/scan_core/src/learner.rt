@@ -7,7 +7,7 @@ ghost use Rattle.scan_core.specs.declared.fault.Fault.TheVariants.{OutOfMemory};
 
 use crate::fault::Fault;
 use crate::tuning::MOST_STRANGE;
-use flow_scan::{EndFinder, Hit, LEAST_LEARNED, Scanner};
+use flow_scan::{EndFinder, Hit, HitSearch, LEAST_LEARNED, PlainSearch, Scanner};
 use plan_store::{PlanStore, Ticket};
 use std::alloc::Global;
 use std::marker::Model;
@@ -54,37 +54,6 @@ impl Learned {
     {
         store.agree(&self.ticket, ticket);
         store.number(&self.ticket) == store.number(ticket)
-    }
-
-    /// Feeds a prefix of a piece to a scan by the plan of a ticket, with the finder if it is by the same plan.
-    fn feed(
-        &mut self,
-        store: &PlanStore,
-        ticket: &Ticket,
-        scanner: &mut Scanner<'_>,
-        piece: &[u8],
-        most: usize,
-        out: &mut Vec<Hit>,
-    ) -> Result<usize, Fault>
-        requires own { IsOf store.now self.old }
-        requires ticket { IsOf store.now ticket.now }
-        requires plan { scanner.old.plan ≡ ticket.now.plan }
-        requires room { scanner.old.place + length piece.now < 2 ^ 64 }
-        ensures same { self.new ≡ self.old }
-        ensures ok { IfOk result (λ count. scanner.new ≡ fed scanner.old (take count piece.now)) }
-        ensures hits { IfOk result (λ count. StopsIn scanner.old.plan.literals scanner.old.tail piece.now scanner.old.place most count out.old.items out.new.items) }
-        ensures same_plan { scanner.new.plan ≡ scanner.old.plan }
-        ensures same_scan { OnErr result (scanner.new ≡ scanner.old) }
-        ensures same_hits { OnErr result (out.new.items ≡ out.old.items) }
-        ensures fault { IsOkUnless result OutOfMemory }
-    {
-        if !self.is_by(store, ticket) {
-            return feed_plainly(scanner, piece, most, out);
-        }
-        let Ok(count) = scanner.feed_learning(&mut self.finder, piece, most, out) else {
-            return Err(Fault::OutOfMemory);
-        };
-        Ok(count)
     }
 }
 
@@ -187,20 +156,25 @@ impl Learner {
         ensures fault { IsOkUnless result OutOfMemory }
     {
         match &mut self.learned {
-            Some(learned) => learned.feed(store, ticket, scanner, piece, most, out),
-            None => feed_plainly(scanner, piece, most, out),
+            Some(learned) if learned.is_by(store, ticket) => {
+                feed_by(&mut learned.finder, scanner, piece, most, out)
+            }
+            _ => feed_by(&mut PlainSearch, scanner, piece, most, out),
         }
     }
 }
 
-/// Feeds a scan without a finder.
-fn feed_plainly(
+/// Feeds a prefix of a piece to a scan, by a search.
+fn feed_by<S: HitSearch>(
+    search: &mut S,
     scanner: &mut Scanner<'_>,
     piece: &[u8],
     most: usize,
     out: &mut Vec<Hit>,
 ) -> Result<usize, Fault>
-    requires { scanner.old.place + length piece.now < 2 ^ 64 }
+    requires plan { S.serves search.old scanner.old.plan.literals }
+    requires room { scanner.old.place + length piece.now < 2 ^ 64 }
+    ensures plan { S.serves search.new scanner.old.plan.literals }
     ensures ok { IfOk result (λ count. scanner.new ≡ fed scanner.old (take count piece.now)) }
     ensures hits { IfOk result (λ count. StopsIn scanner.old.plan.literals scanner.old.tail piece.now scanner.old.place most count out.old.items out.new.items) }
     ensures same_plan { scanner.new.plan ≡ scanner.old.plan }
@@ -208,7 +182,7 @@ fn feed_plainly(
     ensures same_hits { OnErr result (out.new.items ≡ out.old.items) }
     ensures fault { IsOkUnless result OutOfMemory }
 {
-    let Ok(count) = scanner.feed_until(piece, most, out) else {
+    let Ok(count) = scanner.feed_until(search, piece, most, out) else {
         return Err(Fault::OutOfMemory);
     };
     Ok(count)
