@@ -40,7 +40,7 @@ ANSWER_NONE = re.compile(
     "|search_tests::picking::(finding::.*|names_its_faults|numbers::.*|whole_lines::selects_.*)"
     "|serve_tests::sessions::opens_.*_published"
     "|plan_tests::plan_files::reads_nine_letters_.*"
-    "|plan_tests::stores::(finds_.*_published|shows_in_one_thread_what_another_published|tells_two_threads_two_numbers)"
+    "|plan_tests::stores::(finds_.*_published|shows_in_one_thread_what_another_published|gives_two_threads_two_numbers)"
     "|mistaken::answers none"
 )
 NO_VALUE = re.compile(rb"left: None\n right: Some\(")
