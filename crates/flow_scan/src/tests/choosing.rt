@@ -1,12 +1,12 @@
 //! Searches that change their engine at random positions of a text: the plan alone, factors that a piece of the text
 //! chooses, shift-or, the automaton, a finder. Together they find what the plan alone finds.
-ghost use Rattle.std.specs.Prelude.{◌≡◌};
+ghost use Rattle.std.specs.Prelude.{◌≡◌, ◌≤◌, length};
 
 use crate::tests::finding::{
-    CAPITALS, Draws, FIGURES, Summary, WORDS, pieces_of, plain_in, plan_of_pieces, text_of,
+    CAPITALS, Draws, FIGURES, Progress, Summary, WORDS, agree_in, more_by_finder, plain_in,
     with_end,
 };
-use crate::tests::owning::{How, agrees};
+use crate::tests::owning::How;
 use factor_search::{FactorEnds, Factors};
 use lit_base::Fold;
 use lit_plan::Compiled;
@@ -14,41 +14,16 @@ use shift_search::{ShiftOr, ShiftedEnds};
 use std::alloc::Global;
 use text_automaton::{Automaton, AutomatonEnds};
 use text_ends::{EndRate, Ends};
-use text_search::{EndFinder, TextSearch, next_end};
-
-/// The position that a search has reached, and its ends so far.
-type Progress = (usize, Summary);
+use text_search::EndFinder;
 
 /// The length in bytes of the samples.
 const SAMPLE: usize = 20_000;
 
-/// At most `count` more ends, by the plan alone.
-fn by_plan(compiled: &Compiled, text: &[u8], progress: Progress, count: usize) -> Progress {
+/// At most `count` more ends of a walk through a text.
+fn more_ends<E: Ends>(ends: &mut E, text: &[u8], progress: Progress, count: usize) -> Progress {
     let (mut from, mut summary) = progress;
     for _ in 0..count {
-        let Some(end) = next_end(compiled, text, from) else {
-            return (text.len(), summary);
-        };
-        summary = with_end(summary, end);
-        from = end;
-    }
-    (from, summary)
-}
-
-/// At most `count` more ends, by a finder.
-fn by_learning(
-    compiled: &Compiled,
-    finder: &mut EndFinder,
-    text: &[u8],
-    progress: Progress,
-    count: usize,
-) -> Progress
-    requires { finder.old ≡ compiled.now.literals }
-    ensures { finder.new ≡ compiled.now.literals }
-{
-    let (mut from, mut summary) = progress;
-    'ends: for _ in 0..count {
-        let Some(end) = finder.next_end_of(&mut TextSearch::new(compiled, text), from) else {
+        let Some((end, _)) = ends.next_end() else {
             return (text.len(), summary);
         };
         summary = with_end(summary, end);
@@ -65,27 +40,13 @@ fn by_factors(
     sample: &[u8],
     progress: Progress,
     count: usize,
-) -> Option<Progress> {
+) -> Option<Progress>
+    requires { progress.0 ≤ length text.now }
+{
     let mut factors = Factors::new(alloc, compiled.shared_index().ok()?).ok()?;
     factors.learn(sample, EndRate::nothing());
-    Some(ends_by_factors(&factors, text, progress, count))
-}
-
-/// The ends that these factors find.
-fn ends_by_factors(factors: &Factors, text: &[u8], progress: Progress, count: usize) -> Progress {
-    let (mut from, mut summary) = progress;
-    for _ in 0..count {
-        if from > text.len() {
-            return (from, summary);
-        }
-        let mut ends = FactorEnds::after(factors, text, from);
-        let Some((end, _)) = ends.next_end() else {
-            return (text.len(), summary);
-        };
-        summary = with_end(summary, end);
-        from = end;
-    }
-    (from, summary)
+    let mut ends = FactorEnds::after(&factors, text, progress.0);
+    Some(more_ends(&mut ends, text, progress, count))
 }
 
 /// At most `count` more ends, by shift-or with a stride that a sample chooses.
@@ -99,59 +60,24 @@ fn by_shift_or(
 ) -> Option<Progress> {
     let mut shift_or = ShiftOr::new(alloc, compiled.shared_index().ok()?).ok()?;
     shift_or.learn(sample, EndRate::nothing());
-    Some(ends_by_shift_or(&shift_or, text, progress, count))
+    let mut ends = ShiftedEnds::after(&shift_or, text, progress.0);
+    Some(more_ends(&mut ends, text, progress, count))
 }
 
-/// The ends that this shift-or finds.
-fn ends_by_shift_or(shift_or: &ShiftOr, text: &[u8], progress: Progress, count: usize) -> Progress {
-    let (mut from, mut summary) = progress;
-    for _ in 0..count {
-        let mut ends = ShiftedEnds::after(shift_or, text, from);
-        let Some((end, _)) = ends.next_end() else {
-            return (text.len(), summary);
-        };
-        summary = with_end(summary, end);
-        from = end;
-    }
-    (from, summary)
-}
-
-/// At most `count` more ends, by the automaton, which reads the text anew after each.
+/// At most `count` more ends, by the automaton.
 fn by_automaton(
     alloc: Global,
     compiled: &Compiled,
     text: &[u8],
     progress: Progress,
     count: usize,
-) -> Option<Progress> {
+) -> Option<Progress>
+    requires { progress.0 ≤ length text.now }
+{
     let mut automaton = Automaton::new(alloc, compiled.shared_index().ok()?).ok()?;
-    if automaton.learn() {
-        ends_by_automaton(&automaton, text, progress, count)
-    } else {
-        None
-    }
-}
-
-/// The ends that this automaton finds.
-fn ends_by_automaton(
-    automaton: &Automaton,
-    text: &[u8],
-    progress: Progress,
-    count: usize,
-) -> Option<Progress> {
-    let (mut from, mut summary) = progress;
-    for _ in 0..count {
-        if from > text.len() {
-            return None;
-        }
-        let mut ends = AutomatonEnds::after(automaton, text, from)?;
-        let Some((end, _)) = ends.next_end() else {
-            return Some((text.len(), summary));
-        };
-        summary = with_end(summary, end);
-        from = end;
-    }
-    Some((from, summary))
+    automaton.learn();
+    let mut ends = AutomatonEnds::after(&automaton, text, progress.0)?;
+    Some(more_ends(&mut ends, text, progress, count))
 }
 
 /// A sample of a text from a random offset on.
@@ -178,18 +104,13 @@ fn changing_in(
             return Some(summary);
         }
         let count = draws.below(100).saturating_add(1);
+        let sample = sample_of(draws, text)?;
         progress = match draws.below(5) {
-            0 => by_plan(compiled, text, progress, count),
-            1 => by_learning(compiled, finder, text, progress, count),
+            0 => more_ends(&mut compiled.ends_after(text, from), text, progress, count),
+            1 => more_by_finder(compiled, finder, text, progress, count),
+            2 => by_shift_or(alloc, compiled, text, sample, progress, count)?,
             3 => by_automaton(alloc, compiled, text, progress, count)?,
-            2 => {
-                let sample = sample_of(draws, text)?;
-                by_shift_or(alloc, compiled, text, sample, progress, count)?
-            }
-            _ => {
-                let sample = sample_of(draws, text)?;
-                by_factors(alloc, compiled, text, sample, progress, count)?
-            }
+            _ => by_factors(alloc, compiled, text, sample, progress, count)?,
         };
     }
     None
@@ -210,7 +131,7 @@ pub(super) fn changes_the_same(
     Some(changing_in(alloc, compiled, finder, &mut draws, text)? == wanted)
 }
 
-/// Whether it does in a text whose halves consist of the given words, with pieces of the text as literals.
+/// Whether a search with changes agrees with the plan alone.
 fn agree(
     alloc: Global,
     fold: Fold,
@@ -218,12 +139,7 @@ fn agree(
     least: usize,
     seed: u64,
 ) -> Option<bool> {
-    let [first, second] = halves;
-    let mut draws = Draws { state: seed };
-    let text = text_of(alloc, &mut draws, first, second)?;
-    let raw = pieces_of(alloc, &mut draws, &text, least, 1)?;
-    let compiled = plan_of_pieces(alloc, &raw, fold)?;
-    agrees(alloc, &compiled, &text, How::Changing(seed))
+    agree_in(alloc, How::Changing(seed), fold, halves, least, 1, seed)
 }
 
 #[test]

@@ -126,6 +126,9 @@ pub(super) fn plan_of(alloc: Global, literals: &[&[u8]]) -> Option<Compiled> {
 /// The number of ends, and a sum that depends on their positions.
 pub(super) type Summary = (usize, u64);
 
+/// The position that a search has reached, and its ends so far.
+pub(super) type Progress = (usize, Summary);
+
 /// With one end more.
 pub(super) fn with_end(summary: Summary, end: usize) -> Summary {
     let (count, sum) = summary;
@@ -135,26 +138,26 @@ pub(super) fn with_end(summary: Summary, end: usize) -> Summary {
     )
 }
 
-/// The ends that a finder finds in a text, one after another.
-fn add_learned(
-    summary: Summary,
+/// At most `count` more ends, by a finder whose search begins anew after each.
+pub(super) fn more_by_finder(
     compiled: &Compiled,
     finder: &mut EndFinder,
     text: &[u8],
-) -> Summary
+    progress: Progress,
+    count: usize,
+) -> Progress
     requires { finder.old ≡ compiled.now.literals }
     ensures { finder.new ≡ compiled.now.literals }
 {
-    let mut summary = summary;
-    let mut from = 0;
-    'ends: for _ in 0..=text.len() {
+    let (mut from, mut summary) = progress;
+    'ends: for _ in 0..count {
         let Some(end) = finder.next_end_of(&mut TextSearch::new(compiled, text), from) else {
-            return summary;
+            return (text.len(), summary);
         };
         summary = with_end(summary, end);
         from = end;
     }
-    summary
+    (from, summary)
 }
 
 /// The ends that the plan alone finds in a text, one after another.
@@ -178,7 +181,7 @@ fn learned_in(compiled: &Compiled, finder: &mut EndFinder, text: &[u8], size: us
 {
     let mut summary = (0, 0);
     'pieces: for piece in text.chunks(size.max(1)) {
-        summary = add_learned(summary, compiled, finder, piece);
+        (_, summary) = more_by_finder(compiled, finder, piece, (0, summary), usize::MAX);
     }
     summary
 }
@@ -210,7 +213,26 @@ pub(super) fn find_the_same(
     learned_in(compiled, finder, text, size) == plain_in(compiled, text, size)
 }
 
-/// Whether they do with forty pieces of a text as literals. The halves of the text consist of the given words.
+/// Whether a finder finds what the plan alone does. The halves of the text consist of the given words, and the literals
+/// are forty pieces of it, as in `pieces_of`.
+pub(super) fn agree_in(
+    alloc: Global,
+    how: How,
+    fold: Fold,
+    halves: [&[&[u8]]; 2],
+    least: usize,
+    spoilt: u8,
+    seed: u64,
+) -> Option<bool> {
+    let [first, second] = halves;
+    let mut draws = Draws { state: seed };
+    let text = text_of(alloc, &mut draws, first, second)?;
+    let raw = pieces_of(alloc, &mut draws, &text, least, spoilt)?;
+    let compiled = plan_of_pieces(alloc, &raw, fold)?;
+    agrees(alloc, &compiled, &text, how)
+}
+
+/// Whether a finder finds the same ends as the plan alone, at last in pieces of this length.
 fn agree(
     alloc: Global,
     fold: Fold,
@@ -219,12 +241,7 @@ fn agree(
     spoilt: u8,
     size: usize,
 ) -> Option<bool> {
-    let [first, second] = halves;
-    let mut draws = Draws { state: 1 };
-    let text = text_of(alloc, &mut draws, first, second)?;
-    let raw = pieces_of(alloc, &mut draws, &text, least, spoilt)?;
-    let compiled = plan_of_pieces(alloc, &raw, fold)?;
-    agrees(alloc, &compiled, &text, How::Ends(size))
+    agree_in(alloc, How::Ends(size), fold, halves, least, spoilt, 1)
 }
 
 #[test]

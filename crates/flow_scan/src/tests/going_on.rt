@@ -1,10 +1,8 @@
 //! Searches of one text that continue after each end, compared with searches that begin anew.
 ghost use Rattle.std.specs.Prelude.{◌≡◌};
 
-use super::finding::{
-    CAPITALS, Draws, Summary, WORDS, pieces_of, plan_of_pieces, text_of, with_end,
-};
-use crate::tests::owning::{How, agrees};
+use super::finding::{CAPITALS, Summary, WORDS, agree_in, with_end};
+use crate::tests::owning::How;
 use lit_base::Fold;
 use lit_plan::Compiled;
 use std::alloc::Global;
@@ -68,14 +66,9 @@ pub(super) fn go_on_the_same(compiled: &Compiled, finder: &mut EndFinder, text: 
     true
 }
 
-/// Whether they do with forty pieces of a text as literals. The halves of the text consist of the given words.
+/// Whether all three agree in a text of words, for pieces of it.
 fn agree(alloc: Global, fold: Fold, halves: [&[&[u8]]; 2], least: usize) -> Option<bool> {
-    let [first, second] = halves;
-    let mut draws = Draws { state: 3 };
-    let text = text_of(alloc, &mut draws, first, second)?;
-    let raw = pieces_of(alloc, &mut draws, &text, least, 1)?;
-    let compiled = plan_of_pieces(alloc, &raw, fold)?;
-    agrees(alloc, &compiled, &text, How::EndsGoingOn)
+    agree_in(alloc, How::EndsGoingOn, fold, halves, least, 1, 3)
 }
 
 #[test]

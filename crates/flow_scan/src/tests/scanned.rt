@@ -2,10 +2,8 @@
 ghost use Rattle.std.specs.Prelude.{◌≡◌};
 
 use crate::scanning::{scan_after, scan_all};
-use crate::tests::finding::{
-    CAPITALS, Draws, FIGURES, WORDS, pieces_of, plan_of, plan_of_pieces, text_of,
-};
-use crate::tests::owning::{How, agrees};
+use crate::tests::finding::{CAPITALS, FIGURES, WORDS, agree_in, plan_of};
+use crate::tests::owning::How;
 use lit_base::Fold;
 use lit_plan::Compiled;
 use std::alloc::Global;
@@ -68,14 +66,9 @@ fn has_no_finder_for_three_literals(rt: HostRuntime) {
     assert_eq!(rt; has_finder(rt.alloc(), &WORDS), Some(true));
 }
 
-/// Whether it does with forty pieces of a text as literals. The halves of the text consist of the given words.
+/// Whether scans by a finder and by the plan alone agree.
 fn agree(alloc: Global, fold: Fold, halves: [&[&[u8]]; 2], least: usize) -> Option<bool> {
-    let [first, second] = halves;
-    let mut draws = Draws { state: 7 };
-    let text = text_of(alloc, &mut draws, first, second)?;
-    let raw = pieces_of(alloc, &mut draws, &text, least, 1)?;
-    let compiled = plan_of_pieces(alloc, &raw, fold)?;
-    agrees(alloc, &compiled, &text, How::Hits)
+    agree_in(alloc, How::Hits, fold, halves, least, 1, 7)
 }
 
 #[test]

@@ -1,10 +1,10 @@
 //! Streams that are searched by a finder have the hits of the whole text.
 ghost use Rattle.std.specs.Prelude.{◌≡◌};
 
-use super::finding::{CAPITALS, Draws, FIGURES, WORDS, pieces_of, plan_of_pieces, text_of};
+use super::finding::{CAPITALS, FIGURES, WORDS, agree_in};
 use crate::scanner::Scanner;
 use crate::scanning::scan_all;
-use crate::tests::owning::{How, agrees};
+use crate::tests::owning::How;
 use lit_base::Fold;
 use lit_plan::Compiled;
 use std::alloc::Global;
@@ -67,14 +67,9 @@ pub(super) fn feed_the_same(
     Some(wanted.len() > 100)
 }
 
-/// Whether they do with forty pieces of a text as literals. The halves of the text consist of the given words.
+/// Whether streams agree with the whole text.
 fn agree(alloc: Global, fold: Fold, halves: [&[&[u8]]; 2], least: usize) -> Option<bool> {
-    let [first, second] = halves;
-    let mut draws = Draws { state: 11 };
-    let text = text_of(alloc, &mut draws, first, second)?;
-    let raw = pieces_of(alloc, &mut draws, &text, least, 1)?;
-    let compiled = plan_of_pieces(alloc, &raw, fold)?;
-    agrees(alloc, &compiled, &text, How::Stream)
+    agree_in(alloc, How::Stream, fold, halves, least, 1, 11)
 }
 
 #[test]
@@ -109,13 +104,10 @@ pub(super) fn learns_in_pieces(
     Some(are_fed && finder.engine() != Engine::Plan)
 }
 
-/// Whether it does for forty pieces of a text of words.
+/// Whether it does in a text of words.
 fn learns(alloc: Global, size: usize) -> Option<bool> {
-    let mut draws = Draws { state: 23 };
-    let text = text_of(alloc, &mut draws, &WORDS, &WORDS)?;
-    let raw = pieces_of(alloc, &mut draws, &text, 4, 1)?;
-    let compiled = plan_of_pieces(alloc, &raw, Fold::No)?;
-    agrees(alloc, &compiled, &text, How::StreamTuned(size))
+    let how = How::StreamTuned(size);
+    agree_in(alloc, how, Fold::No, [&WORDS, &WORDS], 4, 1, 23)
 }
 
 #[test]
