@@ -3,7 +3,7 @@ ghost use Rattle.std.specs.Prelude.{◌≤◌, ◌^◌};
 
 use crate::texts::{literals, quiet_text, rare_text};
 use anyhow::{Result, ensure};
-use lane_filter::{Candidates, Prefilter, filter, filter_wide};
+use lane_filter::{Candidates, Prefilter, filter};
 use lit_base::{Ends, LitList, Profile, is_cut};
 use memchr::memchr;
 use nib_mask::Masks;
@@ -19,17 +19,15 @@ const BYTES: u64 = 1 << 22;
 #[derive(Clone, Copy)]
 enum Contestant {
     Scalar,
-    Comparisons,
-    Swizzles,
+    Filter,
     QuietCursor,
     RareCursor,
     OneByte,
 }
 
-const CONTESTANTS: [Contestant; 6] = [
+const CONTESTANTS: [Contestant; 5] = [
     Contestant::Scalar,
-    Contestant::Comparisons,
-    Contestant::Swizzles,
+    Contestant::Filter,
     Contestant::QuietCursor,
     Contestant::RareCursor,
     Contestant::OneByte,
@@ -39,8 +37,7 @@ impl Contestant {
     fn name(self) -> &'static str {
         match self {
             Contestant::Scalar => "scalar loop",
-            Contestant::Comparisons => "filter",
-            Contestant::Swizzles => "filter_wide",
+            Contestant::Filter => "filter",
             Contestant::QuietCursor => "cursor, no candidate",
             Contestant::RareCursor => "cursor, one in 4 KiB",
             Contestant::OneByte => "memchr",
@@ -49,7 +46,7 @@ impl Contestant {
 }
 
 /// The times of the turns of each contestant, in nanoseconds.
-type Times = [[u64; TURNS]; 6];
+type Times = [[u64; TURNS]; 5];
 
 /// Measures all contestants over texts of `len` bytes, with the tables of `count` literals.
 pub fn measure<R: Clock + Print + AllocGlobal>(rt: &R, len: usize, count: u16) -> Result<()>
@@ -65,7 +62,7 @@ pub fn measure<R: Clock + Print + AllocGlobal>(rt: &R, len: usize, count: u16) -
     let mut quiet = quiet_text(rt.alloc(), len + 2)?;
     let mut rare = rare_text(rt.alloc(), len + 2, &list)?;
     let mut out: Vec<u16> = vec![in rt.alloc(); 0; len]?;
-    let mut times = [[0; TURNS]; 6];
+    let mut times = [[0; TURNS]; 5];
     let mut sum = 0u64;
     for turn in 0..TURNS {
         for place in 0..CONTESTANTS.len() {
@@ -156,8 +153,7 @@ fn go_over(contestant: Contestant, masks: &Masks, text: &[u8], out: &mut [u16]) 
     };
     match contestant {
         Contestant::Scalar => filter_scalar(masks, x0, x1, x2, out),
-        Contestant::Comparisons => filter(masks, x0, x1, x2, out),
-        Contestant::Swizzles => filter_wide(masks, x0, x1, x2, out),
+        Contestant::Filter => filter(masks, x0, x1, x2, out),
         Contestant::QuietCursor | Contestant::RareCursor => return candidates(masks, text),
         Contestant::OneByte => return memchr(b'~', text).map_or(0, |place| place as u64),
     }

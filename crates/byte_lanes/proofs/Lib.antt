@@ -3,5 +3,4 @@ pub mod BitLemmas
 pub mod BlockLemmas
 pub mod EntryLemmas
 pub mod FilterLemmas
-pub mod FourLemmas
 pub mod LaneLemmas

@@ -1,7 +1,6 @@
 pub mod Bits
 pub mod Entries
 pub mod Filtered
-pub mod Fours
 pub mod Prefixes
 pub mod Lanes
 pub mod PlacesAfter

@@ -1,8 +1,11 @@
 //! The tables of a filter as lists of their entries that are not zero, for look-ups by comparisons.
-ghost use Rattle.std.specs.Prelude.{ℕ, ◌+◌, ◌/◌, ◌%◌, ◌≤◌, List, length, slice_index, bit_and};
+ghost use Rattle.std.specs.Prelude.{ℕ, ◌/◌, ◌%◌, ◌≤◌, List, slice_index, bit_and};
+ghost use Rattle.byte_lanes.specs.Lanes.{HasLanes};
 
-use crate::four::Four;
+use crate::lanes::{high_halves, low_halves};
+use crate::wide_lanes::{both_wide, either_wide, value_where_wide, widen};
 use nib_mask::Masks;
+use std::simd::prelude::*;
 
 /// The entries of one table that are not zero, each with the half of a byte that it stands for.
 #[derive(Clone, Copy)]
@@ -27,7 +30,6 @@ pub(crate) struct MaskEntries {
 
 impl Entries {
     ghost use Rattle.byte_lanes.specs.Entries.{AreEntriesOf, entries_value};
-    ghost use Rattle.byte_lanes.specs.Fours.{HasFour};
 
     fn of(table: &[u16; 16]) -> Entries
         ensures { AreEntriesOf table.now result }
@@ -50,13 +52,13 @@ impl Entries {
 
     /// What the entries give each lane, a comparison and a selection for each entry.
     #[inline(always)]
-    fn look_up(&self, halves: &Four) -> Four
-        ensures { (f : ℕ → ℕ) → HasFour halves.now f
-            → HasFour result (λ k. entries_value self.now.halves self.now.values self.now.count (f k)) }
+    fn look_up(&self, halves: u16x32) -> u16x32
+        ensures { HasLanes result (λ k. entries_value self.now.halves self.now.values self.now.count (slice_index halves k)) }
     {
-        let mut sum = Four::zero();
+        let mut sum = u16x32::splat(0);
         for i in 0..self.count {
-            sum = sum.with_value_where(halves, self.halves[i], self.values[i]);
+            let value = value_where_wide(halves, self.halves[i], self.values[i]);
+            sum = either_wide(sum, value);
         }
         sum
     }
@@ -66,7 +68,6 @@ impl MaskEntries {
     ghost use Rattle.nib_mask.specs.declared.masks.Masks.{Masks};
     ghost use Rattle.nib_mask.specs.Tables.{table_value};
     ghost use Rattle.byte_lanes.specs.Entries.{AreEntriesOf, AreMaskEntries};
-    ghost use Rattle.byte_lanes.specs.Fours.{HasFour};
 
     pub(crate) fn of(masks: &Masks) -> MaskEntries
         ensures { AreMaskEntries masks.now result }
@@ -82,31 +83,32 @@ impl MaskEntries {
         }
     }
 
-    /// The filter numbers of 128 positions.
+    /// The filter number of each three lanes.
     #[inline(always)]
-    pub(crate) fn filter(&self, x0: &[u8], x1: &[u8], x2: &[u8], at: usize) -> Four
-        requires x0 { at + 128 ≤ length x0.now }
-        requires x1 { at + 128 ≤ length x1.now }
-        requires x2 { at + 128 ≤ length x2.now }
-        ensures { (masks : Masks) → AreMaskEntries masks self.now → HasFour result (λ k. table_value masks
-            (slice_index x0.now (at + k)) (slice_index x1.now (at + k)) (slice_index x2.now (at + k))) }
+    pub(crate) fn filter(&self, third: u8x32, second: u8x32, last: u8x32) -> u16x32
+        ensures { (masks : Masks) → AreMaskEntries masks self.now → HasLanes result (λ k. table_value masks
+            (slice_index third k) (slice_index second k) (slice_index last k)) }
     {
-        let third = Self::at_position(&self.third_low, &self.third_high, x0, at);
-        let second = Self::at_position(&self.second_low, &self.second_high, x1, at);
-        let last = Self::at_position(&self.last_low, &self.last_high, x2, at);
-        third.both(&second).both(&last)
+        let prefix = both_wide(
+            Self::at_position(&self.third_low, &self.third_high, third),
+            Self::at_position(&self.second_low, &self.second_high, second),
+        );
+        both_wide(
+            prefix,
+            Self::at_position(&self.last_low, &self.last_high, last),
+        )
     }
 
-    /// What the tables of one position give 128 positions.
+    /// What the entries of the two tables of a position give each lane.
     #[inline(always)]
-    fn at_position(low: &Entries, high: &Entries, bytes: &[u8], at: usize) -> Four
-        requires { at + 128 ≤ length bytes.now }
+    fn at_position(low: &Entries, high: &Entries, bytes: u8x32) -> u16x32
         ensures { (of_low of_high : List ℕ) → AreEntriesOf of_low low.now → AreEntriesOf of_high high.now
-            → HasFour result (λ k. bit_and (slice_index of_low (slice_index bytes.now (at + k) % 16))
-            (slice_index of_high (slice_index bytes.now (at + k) / 16))) }
+            → HasLanes result (λ k. bit_and (slice_index of_low (slice_index bytes k % 16))
+            (slice_index of_high (slice_index bytes k / 16))) }
     {
-        let bytes = Four::load(bytes, at);
-        let by_low = low.look_up(&bytes.low_halves());
-        by_low.both(&high.look_up(&bytes.high_halves()))
+        both_wide(
+            low.look_up(widen(low_halves(bytes))),
+            high.look_up(widen(high_halves(bytes))),
+        )
     }
 }

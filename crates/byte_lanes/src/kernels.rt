@@ -6,8 +6,7 @@ ghost use Rattle.byte_lanes.specs.Filtered.{IsFiltered};
 use crate::entries::MaskEntries;
 use crate::lanes::load;
 use crate::plain::filter_rest;
-use crate::tables::Tables;
-use crate::wide_lanes::{joined, load_wide, nonzero_wide, store_wide};
+use crate::wide_lanes::{load_wide, nonzero_wide, store_wide};
 use nib_mask::Masks;
 
 /// Writes the filter number of each three bytes that stand at the same position of the three slices, by
@@ -20,27 +19,9 @@ pub fn filter(masks: &Masks, x0: &[u8], x1: &[u8], x2: &[u8], out: &mut [u16])
 {
     let entries = MaskEntries::of(masks);
     let mut at = 0;
-    while out.len() - at >= 128 {
-        entries.filter(x0, x1, x2, at).store(out, at);
-        at += 128;
-    }
-    filter_rest(masks, x0, x1, x2, out, at);
-}
-
-/// As `filter`, by look-ups in tables that vectors hold. It is faster where the processor permutes the
-/// bytes of one vector by another.
-pub fn filter_wide(masks: &Masks, x0: &[u8], x1: &[u8], x2: &[u8], out: &mut [u16])
-    requires x1_length { length x1.now ≡ length x0.now }
-    requires x2_length { length x2.now ≡ length x0.now }
-    requires out_length { length out.old ≡ length x0.now }
-    ensures { IsFiltered masks.now x0.now x1.now x2.now out.new }
-{
-    let (first, last) = (masks.first_eight(), masks.last_eight());
-    let (first, last) = (Tables::of(&first), Tables::of(&last));
-    let mut at = 0;
     while out.len() - at >= 32 {
-        let (a, b, c) = (load(x0, at), load(x1, at), load(x2, at));
-        store_wide(joined(first.filter(a, b, c), last.filter(a, b, c)), out, at);
+        let numbers = entries.filter(load(x0, at), load(x1, at), load(x2, at));
+        store_wide(numbers, out, at);
         at += 32;
     }
     filter_rest(masks, x0, x1, x2, out, at);

@@ -1,9 +1,9 @@
 //! Vectors of 32 bytes, lane by lane, and tests of many positions of a text at once by them: tests of the ends of
-//! literals, 64 or 128 at a time, by the tables of a filter or by bytes. It knows no literals. `filter`, `filter_wide`
-//! and `any_set` work on slices; no search calls them.
+//! literals, 64 or 128 at a time, by the tables of a filter or by bytes. It knows no literals. `filter` and
+//! `any_set` work on slices; no search calls them.
 //!
 //! Theorems: `skip_unmarked` passes no position that a test lets pass. `BlockFilter` returns the bits of the 64
-//! positions that masks let pass. `filter` and `filter_wide` write the filter number of each position, for each length.
+//! positions that masks let pass. `filter` writes the filter number of each position, for each length.
 #![tactic(auto)]
 
 mod all_of;
@@ -12,7 +12,6 @@ mod bits;
 mod block_filter;
 mod end_test;
 mod entries;
-mod four;
 mod kernels;
 mod lanes;
 mod nibbles;
@@ -28,7 +27,7 @@ pub use any_of::AnyOf;
 pub use bits::{below_bit, from_bit, split_lowest};
 pub use block_filter::BlockFilter;
 pub use end_test::EndTest;
-pub use kernels::{any_set, filter, filter_wide};
+pub use kernels::{any_set, filter};
 pub use lanes::{any_lane_of, both, equal_bits, load, load_64, value_where, with_bits};
 pub use nibbles::Nibbles;
 pub use rare_look::Turn;

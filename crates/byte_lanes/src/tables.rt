@@ -44,7 +44,7 @@ impl Tables {
 
     /// The filter byte of each three lanes.
     #[inline(always)]
-    pub(crate) fn filter(&self, third: u8x32, second: u8x32, last: u8x32) -> u8x32
+    fn filter(&self, third: u8x32, second: u8x32, last: u8x32) -> u8x32
         ensures { (masks : Masks) → AreTablesOf masks self.now → HasLanes result (λ k. table_value masks
             (slice_index third k) (slice_index second k) (slice_index last k)) }
     {

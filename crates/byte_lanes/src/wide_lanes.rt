@@ -1,5 +1,5 @@
 //! Single vectors of 32 numbers of 16 bits, lane by lane.
-ghost use Rattle.std.specs.Prelude.{◌≡◌, ◌≢◌, ◌↔◌, ℕ, ◌+◌, ◌*◌, ◌/◌, ◌%◌, ◌≤◌, ◌==◌, if◌then◌else◌, length, slice_index, bit_and, bit_or};
+ghost use Rattle.std.specs.Prelude.{◌≡◌, ◌≢◌, ◌↔◌, ℕ, ◌+◌, ◌≤◌, ◌==◌, if◌then◌else◌, length, slice_index, bit_and, bit_or};
 ghost use Rattle.std.specs.Int.{bit_at};
 ghost use Rattle.std.specs.Simd.Lanes.{put_chunk};
 ghost use Rattle.byte_lanes.specs.Lanes.{HasLanes};
@@ -12,14 +12,6 @@ pub(crate) fn widen(vector: u8x32) -> u16x32
     ensures { HasLanes result (λ k. slice_index vector k) }
 {
     vector.cast::<u16>()
-}
-
-/// Lanes of 8 bits, each below the 8 bits of another vector.
-#[inline(always)]
-pub(crate) fn joined(low: u8x32, high: u8x32) -> u16x32
-    ensures { HasLanes result (λ k. slice_index high k * 256 + slice_index low k) }
-{
-    widen(high) << u16x32::splat(8) | widen(low)
 }
 
 /// The 32 numbers from a position on.
@@ -38,22 +30,6 @@ pub(crate) fn store_wide(vector: u16x32, numbers: &mut [u16], at: usize)
     ensures { numbers.new ≡ put_chunk at numbers.old vector }
 {
     vector.copy_to_slice(&mut numbers[at..]);
-}
-
-/// The low half of each lane, which holds a byte.
-#[inline(always)]
-pub(crate) fn low_halves_wide(vector: u16x32) -> u16x32
-    ensures { HasLanes result (λ k. slice_index vector k % 16) }
-{
-    vector & u16x32::splat(15)
-}
-
-/// The high half of each lane, which holds a byte.
-#[inline(always)]
-pub(crate) fn high_halves_wide(vector: u16x32) -> u16x32
-    ensures { HasLanes result (λ k. slice_index vector k / 16) }
-{
-    vector >> u16x32::splat(4)
 }
 
 /// The bits that both have.

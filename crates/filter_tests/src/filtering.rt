@@ -1,7 +1,7 @@
-//! The kernels and the cursor compared with the filter position by position, over lengths round each boundary.
+//! The kernel and the cursor compared with the filter position by position, over lengths round each boundary.
 ghost use Rattle.std.specs.Prelude.{◌<◌, ◌≤◌, length};
 
-use lane_filter::{Candidates, Prefilter, any_set, filter, filter_wide};
+use lane_filter::{Candidates, Prefilter, any_set, filter};
 use lit_base::{Ends, Fault, Fold, LitList, Profile, RawList, is_cut};
 use nib_mask::{Masks, filter_number};
 use std::alloc::{AllocError, Global};
@@ -190,8 +190,8 @@ fn plain_next(plain: &PlainTest, text: &[u8], from: usize) -> Option<usize> {
         .find(|end| plain.passes(text, *end))
 }
 
-/// Whether both kernels give the plain filter numbers at `len` positions from an offset on.
-fn kernels_agree(masks: &Masks, bytes: &[u8], offset: usize, len: usize) -> bool
+/// Whether the kernel gives the plain filter numbers at `len` positions from an offset on.
+fn kernel_agrees(masks: &Masks, bytes: &[u8], offset: usize, len: usize) -> bool
     requires offset { offset < 1000 }
     requires len { len ≤ 200 }
 {
@@ -202,14 +202,10 @@ fn kernels_agree(masks: &Masks, bytes: &[u8], offset: usize, len: usize) -> bool
     ) else {
         return false;
     };
-    let (mut by_comparisons, mut by_swizzles) = ([7; 200], [7; 200]);
-    filter(masks, x0, x1, x2, &mut by_comparisons[..len]);
-    filter_wide(masks, x0, x1, x2, &mut by_swizzles[..len]);
-    let found = by_comparisons.iter().zip(by_swizzles.iter());
-    x0.iter().zip(x1).zip(x2).zip(found).all(|(((a, b), c), (one, other))| {
-        let wanted = filter_number(masks, *a, *b, *c);
-        *one == wanted && *other == wanted
-    })
+    let mut found = [7; 200];
+    filter(masks, x0, x1, x2, &mut found[..len]);
+    x0.iter().zip(x1).zip(x2).zip(found.iter()).all(|(((a, b), c), number)| *number
+        == filter_number(masks, *a, *b, *c))
 }
 
 /// Whether a cursor gives the candidates after a place, in order, and then none.
@@ -255,11 +251,7 @@ fn finds_one_literal_past_the_last_full_vector(rt: HostRuntime) -> Result<(), Fa
     let mut out = [7; 33];
     filter(&masks, &x0, &x1, &x2, &mut out);
     assert_eq!(rt; out, wanted);
-    out = [7; 33];
-    filter_wide(&masks, &x0, &x1, &x2, &mut out);
-    assert_eq!(rt; out, wanted);
     filter(&masks, &[], &[], &[], &mut []);
-    filter_wide(&masks, &[], &[], &[], &mut []);
     Ok(())
 }
 
@@ -280,12 +272,12 @@ fn shows_whether_a_byte_is_set(rt: HostRuntime) -> Result<(), Fail> {
 }
 
 #[test]
-fn kernels_give_the_plain_filter_byte(rt: HostRuntime) -> Result<(), Fail> {
+fn kernel_gives_the_plain_filter_number(rt: HostRuntime) -> Result<(), Fail> {
     let bytes = bytes(rt.alloc(), 270)?;
     for masks in &all_masks(rt.alloc())? {
         for offset in 0..65 {
             for len in 0..=200 {
-                let agree = kernels_agree(masks, &bytes, offset, len);
+                let agree = kernel_agrees(masks, &bytes, offset, len);
                 assert!(rt; agree, "{len} bytes from {offset}");
             }
         }
