@@ -1,19 +1,12 @@
--- Tables of bits by the hashes of keys: one more bit, and that a table has the bit of each literal that ends in a text.
-use Rattle.std.proofs.Common.{◌≡◌, ℕ, ◌+◌, ◌-◌, refl, ◌*◌, ◌%◌, ◌^◌, ◌<◌, ◌≤◌, List, length, get_or, replicate, set, inl, inr, sym, ap, ◌∙◌, subst, arith, below_more, get_or-set_same, get_or-set_other}
+-- Tables of bits by the hashes of keys: one more bit.
+use Rattle.std.proofs.Common.{◌≡◌, ℕ, ◌+◌, ◌*◌, ◌%◌, ◌^◌, ◌<◌, List, length, get_or, replicate, set, inl, inr, sym, ap, ◌∙◌, subst, arith, below_more, get_or-set_same, get_or-set_other}
 use Rattle.std.specs.Int.{bit_at, w8}
-use Rattle.std.specs.Int.RustNames.{bit_and, bit_or}
-use Rattle.std.specs.List.{slice_range}
+use Rattle.std.specs.Int.RustNames.{bit_or}
 use Rattle.std.proofs.lemmas.Bool.{cases_eq, cases_lt}
 use Rattle.std.proofs.lemmas.List.{get_or-replicate, get_or_past, length-replicate}
 use Rattle.std.proofs.lemmas.Nat.Bits.{bit_at-lt, bit_at-zero, bit_at_or, bit_at_set_same, bit_at_set_other}
-use Rattle.std.proofs.lemmas.Option.{slice_get_within}
-use Rattle.list_index.specs.declared.suffixes.hash_bits.HashBits.{HashBits}
-use Rattle.list_index.specs.declared.suffixes.hash_bits.TheConstants.{HASH_BITS}
-use Rattle.lit_base.specs.Literals.{Literals}
-use Rattle.list_index.specs.HashBits.{AreHashBitsOf, AreKeyBits, HasBit, IsSet}
-use Rattle.lit_base.specs.Occurrences.{Occurs}
-use Rattle.list_index.specs.Suffixes.{hash_of, spelled}
-use Rattle.list_index.proofs.SuffixLemmas.{AreBytes, word-occurs}
+use Rattle.list_index.specs.HashBits.{AreKeyBits, HasBit, IsSet}
+use Rattle.list_index.specs.Suffixes.{hash_of}
 
 -- a bit of a number of a table is set
 module _ (table : List ℕ) (number byte bit : ℕ) (room : number < length table) (read : byte ≡ get_or table number 0) (small : bit < 8) where
@@ -87,12 +80,3 @@ more_key_bits bits key_of bit_of count key bit old new are key_is bit_is len mor
     | inr next ↦ record { place = count; within = omega arith; hash = next.0 ∙ ap (hash_of bits) key_is; is = next.1 ∙ bit_is }
   ];
 }
-
--- where a literal ends, the text's hash before it has the bit
-pub marked-occurs : (l : Literals) (hash_bits : HashBits) (text : List ℕ) (place end : ℕ) → AreHashBitsOf l hash_bits → AreBytes text → 8 ≤ end → Occurs l text place end
-    → HasBit hash_bits.bytes.items (hash_of HASH_BITS (bit_or (bit_and (spelled (slice_range text (end - 8) end)) hash_bits.mask) hash_bits.case_bits)) 0
-marked-occurs l hash_bits text place end is bytes room occurs =
-    let there = slice_get_within l.texts place occurs.literal occurs.stands in
-    let word : ℕ = spelled (slice_range text (end - 8) end) in
-    let key = ap (λ m. bit_or (bit_and word m) hash_bits.case_bits) is.mask ∙ word-occurs l text place end hash_bits.width word hash_bits.case_bits bytes is.narrow room (is.wide place there) refl is.case occurs in
-    subst (λ k. HasBit hash_bits.bytes.items (hash_of HASH_BITS k) 0) (sym key) (is.bits.has place there)

@@ -5,7 +5,7 @@ use Rattle.list_index.specs.declared.suffixes.checks.SuffixChecks.{SuffixChecks}
 use Rattle.list_index.specs.declared.suffixes.checks.TheConstants.{CHECK_BITS}
 use Rattle.list_index.specs.Chains.{AreChainsOf, key_width_at}
 use Rattle.lit_base.specs.Literals.{Literals, literal_at}
-use Rattle.list_index.specs.HashBits.{AreHashBitsOf, AreKeyBits}
+use Rattle.list_index.specs.HashBits.{AreKeyBits}
 use Rattle.list_index.specs.Suffixes.{case_bits, last_key}
 
 -- how many bytes of a key are checked: all of eight, and at most `most` of fewer
@@ -29,8 +29,7 @@ pub record AreChecksOf (l : Literals) (checks : SuffixChecks) : Type 0 where
   pub wide : (place : ℕ) → place < length l.texts → checks.least ≤ length (literal_at l place)
   pub bits : AreKeyBits CHECK_BITS (checked_key l checks.most) (width_bit l) (length l.texts) checks.widths.items
 
--- chains, hash bits and checks of the literals
+-- chains and checks of the literals
 pub record AreSuffixesOf (l : Literals) (suffixes : Suffixes) : Type 0 where
   pub chains : AreChainsOf l suffixes.chains
-  pub hash_bits : AreHashBitsOf l suffixes.hash_bits
   pub checks : AreChecksOf l suffixes.checks

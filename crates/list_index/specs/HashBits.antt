@@ -1,10 +1,7 @@
--- Tables of bits by the hashes of keys, and the hash bits of literals' last bytes, which rule out positions where no literal ends.
-use Rattle.std.specs.Prelude.{◌≡◌, ℕ, ◌^◌, ◌<◌, ◌≤◌, ◌⊎◌, List, length, slice_index}
+-- Tables of bits by the hashes of keys.
+use Rattle.std.specs.Prelude.{◌≡◌, ℕ, ◌^◌, ◌<◌, ◌⊎◌, List, length, slice_index}
 use Rattle.std.specs.Int.{bit_at}
-use Rattle.list_index.specs.declared.suffixes.hash_bits.HashBits.{HashBits}
-use Rattle.lit_base.specs.Literals.{Literals, literal_at}
-use Rattle.list_index.specs.Suffixes.{case_bits, hash_of, last_key, suffix_mask}
-use Rattle.list_index.specs.declared.suffixes.hash_bits.TheConstants.{HASH_BITS}
+use Rattle.list_index.specs.Suffixes.{hash_of}
 
 -- the byte of a number has a bit
 abbrev pub HasBit : List ℕ → ℕ → ℕ → Type 0
@@ -28,12 +25,3 @@ pub record AreKeyBits (bits : ℕ) (key_of bit_of : ℕ → ℕ) (count : ℕ) (
   pub room : length table ≡ 2 ^ bits
   pub has : (place : ℕ) → place < count → HasBit table (hash_of bits (key_of place)) (bit_of place)
   pub only : (number bit : ℕ) → HasBit table number bit → IsKeyBit bits key_of bit_of count number bit
-
--- the last bytes of each literal have a bit, and nothing else has
-pub record AreHashBitsOf (l : Literals) (hash_bits : HashBits) : Type 0 where
-  pub some : 0 < hash_bits.width
-  pub narrow : hash_bits.width ≤ 8
-  pub mask : hash_bits.mask ≡ suffix_mask hash_bits.width
-  pub case : hash_bits.case_bits ≡ case_bits l.folding
-  pub wide : (place : ℕ) → place < length l.texts → hash_bits.width ≤ length (literal_at l place)
-  pub bits : AreKeyBits HASH_BITS (last_key l hash_bits.width) (λ _. 0) (length l.texts) hash_bits.bytes.items

@@ -24,7 +24,7 @@ pub(crate) fn ends_alone(
     let mut flags = Vec::from_elem(alloc, true, list.len())?;
     for place in 0..list.len() {
         let literal = list.get(place);
-        if let Some(first) = suffixes.first_ending(list, literal, literal.len()) {
+        if let Some(first) = suffixes.next_ending(list, literal, literal.len(), 0) {
             if first < place {
                 flags[first] = false;
             }

@@ -38,7 +38,7 @@ impl Model for ListIndex {
 }
 
 impl ListIndex {
-    /// The index of a list, which a plan and its engines share. It takes 72 KiB, and memory for each literal. `Err` if
+    /// The index of a list, which a plan and its engines share. It takes 8 KiB, and memory for each literal. `Err` if
     /// memory is short.
     pub fn new(alloc: Global, list: LitList) -> Result<Arc<ListIndex>, AllocError>
         ensures { IfOk result (λ index. index.value ≡ list) }
@@ -133,8 +133,7 @@ impl ListIndex {
         self.suffixes.next_ending(&self.list, text, end, from)
     }
 
-    /// The first of the literals that ends at `end` in the text, if there is one. It gives the same as `next_ending`
-    /// from the first literal on. It is faster where mostly none ends, since a few bytes rule out most positions.
+    /// The first of the literals that ends at `end` in the text, if there is one.
     #[inline]
     pub fn first_ending(&self, text: &[u8], end: usize) -> Option<usize>
         requires { end ≤ length text.now }
@@ -143,14 +142,11 @@ impl ListIndex {
             (λ place. IsFirstEnding self.now text.now 0 end place) }
         ensures within { IfSome result (λ place. place < length self.now.texts) }
     {
-        if self.list.len() == 1 {
-            return self.only_ending(text, end, 0);
-        }
-        self.suffixes.first_ending(&self.list, text, end)
+        self.next_ending(text, end, 0)
     }
 
-    /// The only literal, if it is from place `from` on and ends at `end`. It is compared at once: through hash bits and
-    /// chains, a search for a literal that each seventh line has takes 1.12 times as long.
+    /// The only literal, if it is from place `from` on and ends at `end`. It is compared at once: through the
+    /// tables, a search for a literal that each seventh line has took 1.12 times as long.
     #[inline]
     fn only_ending(&self, text: &[u8], end: usize, from: usize) -> Option<usize>
         requires one { length self.now.texts ≡ 1 }

@@ -14,18 +14,16 @@ ghost use Rattle.list_index.specs.declared.suffixes.checks.TheConstants.{CHECK_B
 
 use crate::suffixes::chains::SuffixChains;
 use crate::suffixes::checks::SuffixChecks;
-use crate::suffixes::hash_bits::HashBits;
 pub use crate::suffixes::hash_bits::{HASH_BITS, has_bit, set_hash_bit};
 pub use crate::suffixes::key::{case_bits, hash_of, last_word, masked_key, suffix_key};
 use lit_base::LitList;
 use std::alloc::{AllocError, Global};
 
-/// Hash bits, checks and chains, in three steps. Hash bits rule out most positions where no literal ends. For the other
-/// positions, checks give the key widths of the literals that may end there. For the rest, chains give the literals.
+/// Checks and chains, in two steps. Checks give the key widths of the literals that may end at a position: none at most
+/// positions where no literal ends. For the rest, chains give the literals.
 #[derive(Debug, Drop)]
 pub(crate) struct Suffixes {
     pub chains: SuffixChains,
-    pub hash_bits: HashBits,
     pub checks: SuffixChecks,
 }
 
@@ -36,26 +34,8 @@ impl Suffixes {
     {
         Ok(Suffixes {
             chains: SuffixChains::new(alloc, list)?,
-            hash_bits: HashBits::new(alloc, list)?,
             checks: SuffixChecks::new(alloc, list)?,
         })
-    }
-
-    /// The first of the literals that ends at `end` in the text, if there is one. The hash bits come first: they rule
-    /// out most positions where none ends.
-    #[inline]
-    pub fn first_ending(&self, literals: &LitList, text: &[u8], end: usize) -> Option<usize>
-        requires of { AreSuffixesOf literals.now self.now }
-        requires normal { IsNormal literals.now }
-        requires inside { end ≤ length text.now }
-        ensures { MatchOption result
-            (NoneEnds literals.now text.now 0 end)
-            (λ place. IsFirstEnding literals.now text.now 0 end place) }
-    {
-        if self.hash_bits.rules_out(text, end) {
-            return None;
-        }
-        self.next_ending(literals, text, end, 0)
     }
 
     /// The first of the literals from place `from` on that ends at `end` in the text, if there is one.

@@ -1,14 +1,14 @@
-//! Checks by the last bytes of keys, for the positions that the hash bits pass.
+//! Checks by the last bytes of keys, which rule out most positions where no literal ends.
 ghost use Rattle.std.specs.Prelude.{◌≡◌, ℕ, ◌-◌, ◌^◌, ◌<◌, ◌≤◌, ◌⊎◌, length, min, slice_index, vec_len, IfOk};
 ghost use Rattle.std.specs.Int.{bit_at};
 ghost use Rattle.list_index.specs.Chains.{key_width_at};
 ghost use Rattle.list_index.specs.Checks.{AreChecksOf, checked_width};
-ghost use Rattle.lit_base.specs.Literals.{Literals};
+ghost use Rattle.lit_base.specs.Literals.{Literals, literal_at};
 ghost use Rattle.lit_base.specs.Occurrences.{Occurs};
 ghost use Rattle.list_index.specs.Suffixes.{hash_of, masked_key};
 ghost use Rattle.list_index.specs.declared.suffixes.checks.TheConstants.{CHECK_BITS};
 
-use crate::suffixes::hash_bits::{marked_len, set_hash_bit};
+use crate::suffixes::hash_bits::set_hash_bit;
 use crate::suffixes::key::{case_bits, hash_of, key_width, last_word, masked_key, suffix_key};
 use lit_base::LitList;
 use std::alloc::{AllocError, Global};
@@ -44,7 +44,7 @@ impl SuffixChecks {
         ensures { IfOk result (AreChecksOf list.now) }
     {
         let fold = list.fold();
-        let least = marked_len(list).min(8);
+        let least = least_width(list);
         let most = least.max(LEAST_CHECKED);
         let mut widths = Vec::from_elem(alloc, 0, 1 << CHECK_BITS)?;
         for place in 0..list.len() {
@@ -95,6 +95,19 @@ impl SuffixChecks {
     {
         self.widths[hash_of(CHECK_BITS, masked_key(word, width, self.case_bits))]
     }
+}
+
+/// The key width of the shortest literal, or 1 if there is none.
+fn least_width(list: &LitList) -> usize
+    ensures some { 0 < result }
+    ensures small { result ≤ 8 }
+    ensures shared { (place : ℕ) → place < length list.now.texts → result ≤ length (literal_at list.now place) }
+{
+    if list.is_empty() {
+        return 1;
+    }
+    list.normal_law();
+    key_width(list.shortest())
 }
 
 /// The number of bytes by which a key of `keyed` bytes is checked: keys shorter than eight by at most `most`.

@@ -14,7 +14,7 @@ loop-place-preserved c =
     let flags = c.loop-place.flags.items in
     let inside : place < length l.texts = omega (arith, c.loop-place-test.true, c.len-place-end.ensures.value) in
     let here : c.get-literal.result.now ≡ literal_at l place = get_or_read l.texts place c.get-literal.result.now inside c.get-literal.ensures.value [] in
-    elim c.match-first_ending.branch [
+    elim c.match-next_ending.branch [
       | in-Some+then-first-place w ↦
           let first = subst (λ t. IsFirstEnding l t 0 (length t) w.in-Some.first) here w.in-Some.ensures in
           rw (w.flags-is) (one_cleared l place w.in-Some.first flags inside (w.if-first-place.true, first) c.loop-place.invariant)

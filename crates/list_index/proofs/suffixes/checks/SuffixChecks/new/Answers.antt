@@ -30,10 +30,10 @@ returns c =
     let l = c.args.list.now in
     let all : c.loop-place.place ≡ length l.texts = omega (arith, c.loop-place-test.false, c.loop-place.auto.place-end, c.len-place-end.ensures.value) in
     record {
-      some = omega (arith, c.marked_len.ensures.some, c.min-least.ensures);
+      some = c.least_width-least.ensures.some;
       ordered = omega (arith, c.max-most.ensures);
-      narrow = omega (arith, c.min-least.ensures, c.max-most.ensures);
+      narrow = omega (arith, c.least_width-least.ensures.small, c.max-most.ensures);
       case = c.case_bits.ensures ∙ ap case_bits c.fold-fold.ensures;
-      wide = λ place inside. omega (arith, c.marked_len.ensures.shared place inside, c.min-least.ensures);
+      wide = c.least_width-least.ensures.shared;
       bits = subst (λ count. AreKeyBits CHECK_BITS (checked_key l c.max-most.result) (width_bit l) count c.loop-place.widths.items) all c.loop-place.invariant;
     }
