@@ -1,11 +1,10 @@
--- The walk along a chain, and what the widths answer one after another.
-use Rattle.std.proofs.Common.{◌≡◌, ℕ, replicate, set, ◌+◌, ◌<◌, ◌≤◌, true, false, List, [], length, get_or, IfSome, MatchOption, Option, Some, None, inl, inr, sym, ap, ◌∙◌, subst, arith}
+-- The walk along a chain, and the first literal by the widths, one after another.
+use Rattle.std.proofs.Common.{◌≡◌, ℕ, replicate, set, ◌+◌, ◌<◌, ◌≤◌, All, List, [], length, get_or, IfSome, MatchOption, Option, Some, None, inl, inr, sym, ap, ◌∙◌, subst, arith}
 use Rattle.std.specs.List.Sorted.{IsNonDecreasing}
-use Rattle.std.specs.Option.{is_some}
 use Rattle.std.proofs.lemmas.Bool.{cases_eq, cases_lt}
 use Rattle.std.proofs.lemmas.List.{get_or-replicate, get_or-set_other, get_or-set_same, length-map, length-replicate, length-set}
 use Rattle.std.proofs.lemmas.Option.{get_or_from_slice_get, slice_get_within}
-use Rattle.list_index.specs.Chains.{AreChainsOf, HaveWidths, IsChained, IsFirstKeyed, IsNextWith, NoneKeyedEnds, Reaches, hash_at, key_width_at}
+use Rattle.list_index.specs.Chains.{AreChainsOf, IsChained, IsFirstKeyed, IsNextWith, Reaches, hash_at, key_width_at}
 use Rattle.lit_base.specs.Literals.{Literals, lengths, literal_at}
 use Rattle.lit_base.specs.Occurrences.{Occurs, NoneEnds, IsFirstEnding}
 use Rattle.list_index.specs.Suffixes.{suffix_key, hash_of}
@@ -87,9 +86,13 @@ module _ (l : Literals) (text : List ℕ) (end width : ℕ) (chains : SuffixChai
         has = step.has;
       }
 
--- a later literal has no narrower key
-pub key_widths_rise : (l : Literals) → IsNonDecreasing (lengths l) → (place other : ℕ) → place ≤ other → other < length l.texts → key_width_at l place ≤ key_width_at l other
-key_widths_rise l rising place other low inside =
+-- what is no more than each length is no more than the length of the literal at a place
+pub at_least : (l : Literals) (least : ℕ) → All (λ len. least ≤ len) (lengths l) → (place : ℕ) → place < length l.texts → least ≤ length (literal_at l place)
+at_least l least all place inside = omega (arith, all place 0 (omega (arith, inside, length-map l.texts (length {A = ℕ}))), length_at l.texts place 0 inside)
+
+-- a later literal is no shorter
+pub no_shorter : (l : Literals) → IsNonDecreasing (lengths l) → (place other : ℕ) → place ≤ other → other < length l.texts → length (literal_at l place) ≤ length (literal_at l other)
+no_shorter l rising place other low inside =
     let below = rising place other 0 low (omega (arith, inside, length-map l.texts (length {A = ℕ}))) in
     omega (arith, below, length_at l.texts place 0 (omega arith), length_at l.texts other 0 inside)
 
@@ -97,37 +100,19 @@ key_widths_rise l rising place other low inside =
 pub fits_before : (l : Literals) (text : List ℕ) (place end : ℕ) → Occurs l text place end → key_width_at l place ≤ end
 fits_before l text place end occurs = omega (arith, occurs.begins, ap length (get_or_from_slice_get l.texts place occurs.literal [] occurs.stands))
 
--- what the literals of a width answer is none, and so none of them ends there
-pub none_keyed : (l : Literals) (text : List ℕ) (from end width : ℕ) (r : Option ℕ) → false ≡ is_some r
-    → MatchOption r (NoneKeyedEnds l text from end width) (λ place. IsFirstKeyed l text from end width place) → NoneKeyedEnds l text from end width
-none_keyed l text from end width None e found = found
-none_keyed l text from end width (Some p) e found = (cc)
-
--- a literal is found at this width, and the smaller widths hold none: it is the first of all
-pub first_by_width : (l : Literals) (text : List ℕ) (from end width : ℕ) (r : Option ℕ) → IsNonDecreasing (lengths l)
-    → ((place : ℕ) → from ≤ place → key_width_at l place < width → ¬ Occurs l text place end) → true ≡ is_some r
-    → MatchOption r (NoneKeyedEnds l text from end width) (λ place. IsFirstKeyed l text from end width place)
-    → MatchOption r (NoneEnds l text from end) (λ place. IsFirstEnding l text from end place)
-first_by_width l text from end width None rising before e found = (cc)
-first_by_width l text from end width (Some p) rising before e found =
-    let inside = slice_get_within l.texts p found.occurs.literal found.occurs.stands in
-    record {
-      counted = found.counted;
-      occurs = found.occurs;
-      first = λ other low high occurs.
-          let rises = key_widths_rise l rising other p (omega (arith, high)) inside in
-          elim (cases_lt (key_width_at l other) width) [
-            | inl narrower ↦ before other low narrower occurs
-            | inr wide ↦ found.first other low high (omega (arith, wide, rises, found.keyed)) occurs
-          ];
-    }
-
--- a literal is found, and the widths kept after it have the bits of all later literals
-pub after_found : (l : Literals) (text : List ℕ) (from end width left : ℕ) (r : Option ℕ)
-    → MatchOption r (NoneKeyedEnds l text from end width) (λ place. IsFirstKeyed l text from end width place)
-    → ((place : ℕ) → IsFirstKeyed l text from end width place → HaveWidths l text (place + 1) end left) → IfSome r (λ place. HaveWidths l text (place + 1) end left)
-after_found l text from end width left None found have = tt
-after_found l text from end width left (Some p) found have = have p found
+-- the first that is found at this width, where narrower keys hold none, is the first of all
+pub first_by_width : (l : Literals) (text : List ℕ) (from end width first : ℕ) → IsNonDecreasing (lengths l)
+    → ((place : ℕ) → from ≤ place → key_width_at l place < width → ¬ Occurs l text place end) → IsFirstKeyed l text from end width first → IsFirstEnding l text from end first
+first_by_width l text from end width first rising before found = record {
+  counted = found.counted;
+  occurs = found.occurs;
+  first = λ other low high occurs.
+      let rises = no_shorter l rising other first (omega (arith, high)) (slice_get_within l.texts first found.occurs.literal found.occurs.stands) in
+      elim (cases_lt (key_width_at l other) width) [
+        | inl narrower ↦ before other low narrower occurs
+        | inr wide ↦ found.first other low high (omega (arith, wide, rises, found.keyed)) occurs
+      ];
+}
 
 -- a literal that is found is in the list
 pub found_within : (l : Literals) (text : List ℕ) (from end : ℕ) (r : Option ℕ) → MatchOption r (NoneEnds l text from end) (λ place. IsFirstEnding l text from end place)

@@ -1,8 +1,8 @@
 -- Checks by hashes of the last bytes of keys, which give the key widths of the literals that may end at a position.
-use Rattle.std.specs.Prelude.{◌≡◌, ℕ, ◌-◌, ◌==◌, ◌<◌, ◌≤◌, if◌then◌else◌, length, min}
+use Rattle.std.specs.Prelude.{◌≡◌, ℕ, ◌-◌, ◌==◌, ◌<◌, ◌≤◌, if◌then◌else◌, length, max, min}
 use Rattle.list_index.specs.declared.suffixes.Suffixes.{Suffixes}
 use Rattle.list_index.specs.declared.suffixes.checks.SuffixChecks.{SuffixChecks}
-use Rattle.list_index.specs.declared.suffixes.checks.TheConstants.{CHECK_BITS}
+use Rattle.list_index.specs.declared.suffixes.checks.TheConstants.{CHECK_BITS, LEAST_CHECKED}
 use Rattle.list_index.specs.Chains.{AreChainsOf, key_width_at}
 use Rattle.lit_base.specs.Literals.{Literals, literal_at}
 use Rattle.list_index.specs.HashBits.{AreKeyBits}
@@ -23,8 +23,8 @@ width_bit l place = key_width_at l place - 1
 -- the last bytes of each literal's key have the bit of the key's width, and nothing else has
 pub record AreChecksOf (l : Literals) (checks : SuffixChecks) : Type 0 where
   pub some : 0 < checks.least
-  pub ordered : checks.least ≤ checks.most
-  pub narrow : checks.most ≤ 8
+  pub narrow : checks.least ≤ 8
+  pub most : checks.most ≡ max checks.least LEAST_CHECKED
   pub case : checks.case_bits ≡ case_bits l.folding
   pub wide : (place : ℕ) → place < length l.texts → checks.least ≤ length (literal_at l place)
   pub bits : AreKeyBits CHECK_BITS (checked_key l checks.most) (width_bit l) (length l.texts) checks.widths.items

@@ -4,13 +4,13 @@ mod checks;
 mod hash_bits;
 mod key;
 
-ghost use Rattle.std.specs.Prelude.{◌≡◌, ℕ, ◌+◌, ◌-◌, ◌^◌, ◌<◌, ◌≤◌, IfOk, IfSome, MatchOption, length};
+ghost use Rattle.std.specs.Prelude.{◌≡◌, ℕ, ◌+◌, ◌-◌, ◌^◌, ◌<◌, ◌≤◌, IfOk, IfSome, MatchOption, length, max};
 ghost use Rattle.std.specs.Int.{bit_at};
 ghost use Rattle.list_index.specs.Chains.{HaveWidths};
 ghost use Rattle.list_index.specs.Checks.{AreSuffixesOf};
 ghost use Rattle.lit_base.specs.Literals.{IsNormal, Literals};
 ghost use Rattle.lit_base.specs.Occurrences.{IsFirstEnding, NoneEnds};
-ghost use Rattle.list_index.specs.declared.suffixes.checks.TheConstants.{CHECK_BITS};
+ghost use Rattle.list_index.specs.declared.suffixes.checks.TheConstants.{CHECK_BITS, LEAST_CHECKED};
 
 use crate::suffixes::chains::SuffixChains;
 use crate::suffixes::checks::SuffixChecks;
@@ -66,8 +66,8 @@ impl Suffixes {
     #[inline(always)]
     pub fn widths_at(&self, text: &[u8], end: usize) -> u8
         requires some { 0 < self.now.checks.least }
-        requires ordered { self.now.checks.least ≤ self.now.checks.most }
-        requires narrow { self.now.checks.most ≤ 8 }
+        requires narrow { self.now.checks.least ≤ 8 }
+        requires most { self.now.checks.most ≡ max self.now.checks.least LEAST_CHECKED }
         requires room { length self.now.checks.widths.items ≡ 2 ^ CHECK_BITS }
         requires inside { end ≤ length text.now }
         ensures { (l : Literals) → AreSuffixesOf l self.now → HaveWidths l text.now 0 end result }
@@ -101,16 +101,16 @@ impl Suffixes {
     {
         let mut left = *widths;
         while left != 0 {
-            let width = left.trailing_zeros() as usize + 1;
+            let lowest = left.trailing_zeros() as usize;
+            let width = lowest + 1;
             if end < width {
                 return None;
             }
-            let found = self.chains.next_keyed(literals, text, end, from, width);
-            if found.is_some() {
+            if let Some(place) = self.chains.next_keyed(literals, text, end, from, width) {
                 *widths = widths_after(left, width);
-                return found;
+                return Some(place);
             }
-            left &= !(1 << (width - 1));
+            left &= !(1 << lowest);
         }
         None
     }

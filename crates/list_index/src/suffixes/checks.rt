@@ -1,12 +1,12 @@
 //! Checks by the last bytes of keys, which rule out most positions where no literal ends.
-ghost use Rattle.std.specs.Prelude.{◌≡◌, ℕ, ◌-◌, ◌^◌, ◌<◌, ◌≤◌, ◌⊎◌, length, min, slice_index, vec_len, IfOk};
+ghost use Rattle.std.specs.Prelude.{◌≡◌, ℕ, ◌-◌, ◌^◌, ◌<◌, ◌≤◌, ◌⊎◌, length, max, min, slice_index, vec_len, IfOk};
 ghost use Rattle.std.specs.Int.{bit_at};
 ghost use Rattle.list_index.specs.Chains.{key_width_at};
 ghost use Rattle.list_index.specs.Checks.{AreChecksOf, checked_width};
 ghost use Rattle.lit_base.specs.Literals.{Literals, literal_at};
 ghost use Rattle.lit_base.specs.Occurrences.{Occurs};
 ghost use Rattle.list_index.specs.Suffixes.{hash_of, masked_key};
-ghost use Rattle.list_index.specs.declared.suffixes.checks.TheConstants.{CHECK_BITS};
+ghost use Rattle.list_index.specs.declared.suffixes.checks.TheConstants.{CHECK_BITS, LEAST_CHECKED};
 
 use crate::suffixes::hash_bits::set_hash_bit;
 use crate::suffixes::key::{case_bits, hash_of, key_width, last_word, masked_key, suffix_key};
@@ -21,7 +21,7 @@ pub(crate) const CHECK_BITS: usize = 13;
 /// width from the least to eight takes 18 of 100 instructions for a thousand frequent literals in log lines. The chains
 /// reject what the two probes pass wrongly. With one probe for all keys, a thousand rare literals in English text take 1.1
 /// times as long.
-const LEAST_CHECKED: usize = 4;
+pub(crate) const LEAST_CHECKED: usize = 4;
 
 /// A byte for each hash. Bit `width - 1` is set if some literal with a key of `width` bytes has that hash by its
 /// checked bytes. A key of eight bytes is checked whole; a shorter one by as many of its last bytes as the shortest
@@ -63,26 +63,25 @@ impl SuffixChecks {
 
     /// The key widths of the literals that may end at `end`, by the hashes of the last bytes before it: bit `width - 1`
     /// stands for keys of `width` bytes. It probes every width by which keys are checked: a branch for each would often
-    /// be mispredicted.
+    /// be mispredicted. The loop ends at a constant, so that it is unrolled and not vectorised: it seldom runs.
     #[inline(always)]
     pub fn widths_at(&self, text: &[u8], end: usize) -> u8
         requires some { 0 < self.now.least }
-        requires ordered { self.now.least ≤ self.now.most }
-        requires narrow { self.now.most ≤ 8 }
+        requires narrow { self.now.least ≤ 8 }
+        requires most { self.now.most ≡ max self.now.least LEAST_CHECKED }
         requires room { length self.now.widths.items ≡ 2 ^ CHECK_BITS }
         requires eight { 8 ≤ end }
         requires inside { end ≤ length text.now }
         ensures { (l : Literals) (place : ℕ) → AreChecksOf l self.now → Occurs l text.now place end → bit_at result (key_width_at l place - 1) ≡ 1 }
     {
         let word = last_word(text, end);
-        let widest = self.widths_of(word, 8) & 0x80;
-        let narrower = self.widths_of(word, self.most) & 0x7f;
-        let first = widest | narrower;
-        let mut widths = first;
-        for width in self.least..self.most {
-            widths |= self.widths_of(word, width) & (1 << (width - 1));
+        let mut short = 0;
+        for width in self.least..LEAST_CHECKED {
+            short |= self.widths_of(word, width) & (1 << (width - 1));
         }
-        widths
+        let longer = self.widths_of(word, self.most) & 0x7f;
+        let widest = self.widths_of(word, 8) & 0x80;
+        short | longer | widest
     }
 
     /// The key widths of the literals with the hash of the last `width` of the eight bytes that a word spells.

@@ -31,8 +31,8 @@ returns c =
     let all : c.loop-place.place ≡ length l.texts = omega (arith, c.loop-place-test.false, c.loop-place.auto.place-end, c.len-place-end.ensures.value) in
     record {
       some = c.least_width-least.ensures.some;
-      ordered = omega (arith, c.max-most.ensures);
-      narrow = omega (arith, c.least_width-least.ensures.small, c.max-most.ensures);
+      narrow = c.least_width-least.ensures.small;
+      most = c.max-most.ensures;
       case = c.case_bits.ensures ∙ ap case_bits c.fold-fold.ensures;
       wide = c.least_width-least.ensures.shared;
       bits = subst (λ count. AreKeyBits CHECK_BITS (checked_key l c.max-most.result) (width_bit l) count c.loop-place.widths.items) all c.loop-place.invariant;
