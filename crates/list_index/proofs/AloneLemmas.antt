@@ -1,15 +1,19 @@
 -- Where two literals end together the shorter is a suffix of the longer. So the first of several is the shortest suffix
 -- of each other.
 use Rattle.std.proofs.Common.{◌≡◌, ℕ, Bool, true, false, ◌+◌, ◌-◌, ◌<◌, ◌≤◌, List, [], Some, All, inl, inr, length, drop, get_or, replicate, set, slice_range, sym, ap, ◌∙◌, subst, arith}
+use native.Mathlib.Numerals.{unary_clauses}
 use Rattle.std.specs.List.{slice_get}
 use Rattle.std.proofs.lemmas.Bool.{cases_eq, cases_lt, true_from_ne_false}
-use Rattle.std.proofs.lemmas.List.{drop-map, get_or-replicate, get_or-set_other, get_or-set_same, length-drop, length-map, length-replicate, length-set, take_all}
+use Rattle.std.proofs.lemmas.List.{get_or-replicate, get_or-set_other, get_or-set_same, length-replicate, length-set}
 use Rattle.std.proofs.lemmas.Option.{get_or_from_slice_get, slice_get-get_or, slice_get_within}
-use Rattle.lit_base.specs.Folding.{folded, folded_text}
+use Rattle.std.proofs.lemmas.Slice.{between_to_end}
+use Rattle.lit_base.specs.Folding.{folded_text}
 use Rattle.lit_base.specs.Literals.{IsNormal, Literals, literal_at}
 use Rattle.lit_base.specs.Occurrences.{IsFirstEnding, Occurs}
-use Rattle.lit_base.proofs.LengthLemmas.{length_at, lengths_rise}
-use Rattle.list_index.proofs.SuffixLemmas.{drop-range}
+use Rattle.lit_base.proofs.LengthLemmas.{lengths_rise}
+use Rattle.lit_base.proofs.NormalForms.{folded_text-folded_text}
+use Rattle.list_index.proofs.ChainLemmas.{no_shorter}
+use Rattle.list_index.proofs.SuffixLemmas.{bytes_before, literal_is}
 use Rattle.list_index.specs.Alone.{SayAlone}
 
 -- what holds of all literals holds of one
@@ -17,83 +21,57 @@ pub of_literal : (P : List ℕ → Type 0) (texts : List (List ℕ)) (place : �
 of_literal P texts place literal all stands =
     subst P (get_or_from_slice_get texts place literal literal stands) (all place literal (slice_get_within texts place literal stands))
 
--- what a literal ends with, from what the text does where it ends
-tail_of : (l : Literals) (text : List ℕ) (long end short_len : ℕ) (p : Occurs l text long end) → short_len ≤ length p.literal
-    → drop (length p.literal - short_len) p.literal ≡ folded_text l.folding (slice_range text (end - short_len) end)
-tail_of l text long end short_len p fits =
-    let long_len = length p.literal in
-    let at = long_len - short_len in
-    ap (drop at) (sym p.bytes)
-    ∙ drop-map (folded l.folding) at (slice_range text (end - long_len) end)
-    ∙ ap (folded_text l.folding) (drop-range text (end - long_len) (end - short_len) at end (omega (arith, p.begins, fits)))
+module _ (l : Literals) (text : List ℕ) (long end : ℕ) (p : Occurs l text long end) where
+  -- the last bytes of a literal that ends in the text are, folded, the folded bytes before its end
+  folded_again : (len : ℕ) → len ≤ length p.literal → folded_text l.folding (slice_range p.literal (length p.literal - len) (length p.literal)) ≡ folded_text l.folding (slice_range text (end - len) end)
+  folded_again len fits =
+      ap (folded_text l.folding) (simp unary_clauses at (bytes_before l.folding text p.literal end len 0 (omega (arith, fits)) p.begins p.bytes))
+      ∙ folded_text-folded_text l.folding (slice_range text (end - len) end)
 
--- the last bytes of a literal are folded
-folded_tail : (l : Literals) (literal : List ℕ) (short_len : ℕ) → folded_text l.folding literal ≡ literal → short_len ≤ length literal
-    → folded_text l.folding (slice_range literal (length literal - short_len) (length literal)) ≡ drop (length literal - short_len) literal
-folded_tail l literal short_len normal fits =
-    let at = length literal - short_len in
-    let whole : slice_range literal at (length literal) ≡ drop at literal = take_all (length literal - at) (drop at literal) (omega (arith, length-drop at literal)) in
-    ap (folded_text l.folding) whole ∙ sym (drop-map (folded l.folding) at literal) ∙ ap (drop at) normal
-
-module _ (l : Literals) (normal : IsNormal l) where
-  -- a shorter literal that ends where a longer one does ends where this does, taken as a text
-  ends_in_literal : (text : List ℕ) (short long end : ℕ) → (o : Occurs l text short end) → (p : Occurs l text long end) → length o.literal ≤ length p.literal → Occurs l p.literal short (length p.literal)
-  ends_in_literal text short long end o p fits = record {
+  -- a shorter literal that ends where it does ends where it does itself, taken as a text
+  ends_in_literal : (short : ℕ) (o : Occurs l text short end) → length o.literal ≤ length p.literal → Occurs l p.literal short (length p.literal)
+  ends_in_literal short o fits = record {
     literal = o.literal;
     stands = o.stands;
     begins = fits;
     ends = omega arith;
-    bytes = folded_tail l p.literal (length o.literal) (of_literal (λ t. folded_text l.folding t ≡ t) l.texts long p.literal normal.folded p.stands) fits
-        ∙ tail_of l text long end (length o.literal) p fits ∙ o.bytes;
+    bytes = folded_again (length o.literal) fits ∙ o.bytes;
   }
 
   -- and the other way round
-  ends_with_literal : (text : List ℕ) (short long end : ℕ) → (p : Occurs l text long end) → Occurs l p.literal short (length p.literal) → Occurs l text short end
-  ends_with_literal text short long end p o = record {
+  ends_with_literal : (short : ℕ) → Occurs l p.literal short (length p.literal) → Occurs l text short end
+  ends_with_literal short o = record {
     literal = o.literal;
     stands = o.stands;
     begins = omega (arith, o.begins, p.begins);
     ends = p.ends;
-    bytes = sym (tail_of l text long end (length o.literal) p o.begins)
-        ∙ sym (folded_tail l p.literal (length o.literal) (of_literal (λ t. folded_text l.folding t ≡ t) l.texts long p.literal normal.folded p.stands) o.begins)
-        ∙ o.bytes;
+    bytes = sym (folded_again (length o.literal) o.begins) ∙ o.bytes;
   }
-
-  -- a later literal is no shorter
-  no_shorter : (text : List ℕ) (place other end : ℕ) → place ≤ other → (o : Occurs l text place end) → (p : Occurs l text other end) → length o.literal ≤ length p.literal
-  no_shorter text place other end low o p =
-      let within : other < length l.texts = slice_get_within l.texts other p.literal p.stands in
-      let below = lengths_rise l normal place other 0 low (omega (arith, within, length-map l.texts (length {A = ℕ}))) in
-      omega (
-        arith,
-        below,
-        length_at l.texts place 0 (omega (arith, low, within)),
-        length_at l.texts other 0 within,
-        ap (length {A = ℕ}) (get_or_from_slice_get l.texts place o.literal [] o.stands),
-        ap (length {A = ℕ}) (get_or_from_slice_get l.texts other p.literal [] p.stands),
-      )
 
   -- the first of the literals that end together is the first that ends with each later one, taken as a text
-  first_in_literal : (text : List ℕ) (place other end : ℕ) → place < other → IsFirstEnding l text 0 end place → (p : Occurs l text other end) → IsFirstEnding l p.literal 0 (length p.literal) place
-  first_in_literal text place other end low first p = record {
-    counted = omega arith;
-    occurs = ends_in_literal text place other end first.occurs p (no_shorter text place other end (omega (arith, low)) first.occurs p);
-    first = λ sooner _ before there. first.first sooner (omega arith) before (ends_with_literal text sooner other end p there);
-  }
-
-  -- a literal ends with itself
-  ends_itself : (place : ℕ) → place < length l.texts → Occurs l (literal_at l place) place (length (literal_at l place))
-  ends_itself place within =
-      let literal = literal_at l place in
-      let stands : slice_get l.texts place ≡ Some literal = slice_get-get_or l.texts place [] within in
-      let none : length literal - length literal ≡ 0 = omega arith in
+  first_in_literal : IsNormal l → (place : ℕ) → place < long → IsFirstEnding l text 0 end place → IsFirstEnding l p.literal 0 (length p.literal) place
+  first_in_literal normal place low first =
+      let rises = no_shorter l (lengths_rise l normal) place long (omega (arith, low)) (slice_get_within l.texts long p.literal p.stands) in
       record {
-        literal = literal;
-        stands = stands;
-        begins = omega arith;
-        ends = omega arith;
-        bytes = folded_tail l literal (length literal) (of_literal (λ t. folded_text l.folding t ≡ t) l.texts place literal normal.folded stands) (omega arith) ∙ ap (λ n. drop n literal) none;
+        counted = omega arith;
+        occurs = ends_in_literal place first.occurs
+            (omega (arith, rises, ap (length {A = ℕ}) (literal_is l text place end first.occurs), ap (length {A = ℕ}) (literal_is l text long end p)));
+        first = λ sooner _ before there. first.first sooner (omega arith) before (ends_with_literal sooner there);
       }
+
+-- a literal ends with itself
+ends_itself : (l : Literals) → IsNormal l → (place : ℕ) → place < length l.texts → Occurs l (literal_at l place) place (length (literal_at l place))
+ends_itself l normal place within =
+    let literal = literal_at l place in
+    let none : length literal - length literal ≡ 0 = omega arith in
+    record {
+      literal = literal;
+      stands = slice_get-get_or l.texts place [] within;
+      begins = omega arith;
+      ends = omega arith;
+      bytes = ap (folded_text l.folding) (between_to_end literal (length literal - length literal) (length literal) (omega arith) ∙ ap (λ n. drop n literal) none)
+          ∙ normal.folded place [] within;
+    }
 
 -- the literal at a place is the first to end where a later one does, taken as a text
 abbrev pub IsShortestSuffix : Literals → ℕ → ℕ → Type 0
@@ -167,11 +145,10 @@ alone_said l flags normal are = record {
   all = are.all;
   said = λ place within. (
     λ flag text end first other low there.
-        let suffix = first_in_literal l normal text place other end (omega (arith, low)) first there in
+        let suffix = first_in_literal l text other end there normal place (omega (arith, low)) first in
         let inside = slice_get_within l.texts other there.literal there.stands in
-        let is : literal_at l other ≡ there.literal = get_or_from_slice_get l.texts other there.literal [] there.stands in
         let lost : get_or flags place false ≡ false =
-        are.cleared place other inside (omega (arith, low), subst (λ t. IsFirstEnding l t 0 (length t) place) (sym is) suffix) in
+        are.cleared place other inside (omega (arith, low), subst (λ t. IsFirstEnding l t 0 (length t) place) (literal_is l text other end there) suffix) in
         let no : true ≡ false = sym flag ∙ lost in
         (cc),
     λ alone. true_from_ne_false (get_or flags place false)

@@ -2,5 +2,4 @@ pub mod AloneLemmas
 pub mod ChainLemmas
 pub mod CheckLemmas
 pub mod HashBitLemmas
-pub mod ShortEnds
 pub mod SuffixLemmas

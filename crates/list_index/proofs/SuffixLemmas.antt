@@ -3,20 +3,20 @@ use Rattle.std.proofs.Common.{◌≡◌, ℕ, zero, suc, ◌+◌, ◌-◌, ◌*�
 use Rattle.std.proofs.Common.{Fits, w8}
 use Rattle.std.proofs.Math.Facts.{Fits-lt-pow}
 use borrow.Rule.Slice.PartMut.{put_mid}
-use Rattle.std.specs.Int.{w64, from_le_bytes}
+use native.Mathlib.Numerals.{unary_clauses}
 use Rattle.std.specs.Int.RustNames.{bit_and, bit_or}
 use Rattle.std.specs.Int.Bits.{or_zero_r}
 use Rattle.std.specs.List.{slice_range}
 use Rattle.std.proofs.lemmas.Bool.{agree_below_at, cases_lt}
 use Rattle.std.proofs.lemmas.Bool.Decides.{nat_tests, Decides-eqb}
-use Rattle.std.proofs.lemmas.List.{append-nil, append_cancel_left, drop-drop, drop-map, drop_all, take-replicate, take-take, get_or_past, length-append, length-replicate, length-take}
+use Rattle.std.proofs.lemmas.List.{append_cancel_left, drop-drop, drop-map, take-replicate, get_or_past, length-append, length-replicate}
 use Rattle.std.proofs.lemmas.List.Edits.{length-between, get_or-between}
 use Rattle.std.proofs.lemmas.Nat.{pow-add, shr-shr, shr_high, or_block}
 use Rattle.std.proofs.lemmas.Nat.Bits.{and_high_mask}
 use Rattle.std.proofs.Math.Nat.{mul_assoc}
 use Rattle.std.proofs.Math.Seq.{drop-append-add}
 use Rattle.std.proofs.lemmas.Option.{get_or_from_slice_get, slice_get-get_or}
-use Rattle.std.proofs.lemmas.Slice.{between_is, between_to_end}
+use Rattle.std.proofs.lemmas.Slice.{between_from_start, between_is, between_to_end, take-put_mid}
 use Rattle.lit_base.specs.declared.fold.Fold.{Fold}
 use Rattle.lit_base.specs.declared.fold.Fold.TheVariants.{No, Ascii}
 use Rattle.lit_base.specs.Folding.{folded, folded_text}
@@ -32,6 +32,10 @@ pub record AreBytes (bs : List ℕ) : Type 0 where
 -- those that fit a byte are
 pub are_bytes : (bs : List ℕ) → ((i : ℕ) → Fits w8 (get_or bs i 0)) → AreBytes bs
 are_bytes bs h = record { small = λ i. Fits-lt-pow (h i) }
+
+more_bytes : (b : ℕ) (bs : List ℕ) → b < 256 → AreBytes bs → (i : ℕ) → get_or (b ∷ bs) i 0 < 256
+more_bytes b bs small h zero = small
+more_bytes b bs small h (suc i) = h.small i
 
 rest_bytes : (b : ℕ) (bs : List ℕ) → AreBytes (b ∷ bs) → AreBytes bs
 rest_bytes b bs h = record { small = λ i. h.small (suc i) }
@@ -57,35 +61,15 @@ spelled-zeros (suc n) bs =
     let rest = spelled-zeros n bs in
     ap (λ k. k * 256 + 0) rest ∙ omega arith ∙ mul_assoc (spelled bs) (2 ^ (8 * n)) 256 ∙ ap (λ k. spelled bs * k) (sym split)
 
--- std reads eight bytes as the number that they spell
-read_is_spelled : (bs : List ℕ) → length bs ≡ 8 → from_le_bytes w64 bs ≡ spelled bs
-read_is_spelled (a ∷ b ∷ c ∷ d ∷ e ∷ f ∷ g ∷ h ∷ []) len = omega arith
-read_is_spelled [] len = absurd (omega arith)
-read_is_spelled (a ∷ []) len = absurd (omega arith)
-read_is_spelled (a ∷ b ∷ []) len = absurd (omega arith)
-read_is_spelled (a ∷ b ∷ c ∷ []) len = absurd (omega arith)
-read_is_spelled (a ∷ b ∷ c ∷ d ∷ []) len = absurd (omega arith)
-read_is_spelled (a ∷ b ∷ c ∷ d ∷ e ∷ []) len = absurd (omega arith)
-read_is_spelled (a ∷ b ∷ c ∷ d ∷ e ∷ f ∷ []) len = absurd (omega arith)
-read_is_spelled (a ∷ b ∷ c ∷ d ∷ e ∷ f ∷ g ∷ []) len = absurd (omega arith)
-read_is_spelled (a ∷ b ∷ c ∷ d ∷ e ∷ f ∷ g ∷ h ∷ i ∷ more) len = absurd (omega arith)
-
-padded_len : (bytes : List ℕ) → length bytes ≤ 8 → length (replicate (8 - length bytes) 0 ++ bytes) ≡ 8
-padded_len bytes few = omega (arith, length-append (replicate (8 - length bytes) 0) bytes, length-replicate {A = ℕ} (8 - length bytes) 0)
-
--- and so at most eight, with zeros in front of them
+-- eight bytes whose last ones were written over zeros spell what the written ones do after zeros
 pub padded : (xs bytes : List ℕ) → xs ≡ bytes → length bytes ≤ 8
-    → from_le_bytes w64 (put_mid (8 - length bytes) (8 - (8 - length bytes)) (replicate 8 0) xs) ≡ spelled (replicate (8 - length bytes) 0 ++ bytes)
+    → spelled (slice_range (put_mid (8 - length bytes) (8 - (8 - length bytes)) (replicate 8 0) xs) (8 - 8) 8) ≡ spelled (replicate (8 - length bytes) 0 ++ bytes)
 padded xs bytes same few =
     let room : ℕ = 8 - length bytes in
-    let prefix : take room (replicate 8 0) ≡ replicate room 0 = take-replicate room 8 0 (omega arith) in
-    let after : drop (8 - room) (drop room (replicate 8 0)) ≡ [] =
-    drop-drop (8 - room) room (replicate 8 0) ∙ drop_all (room + (8 - room)) (replicate 8 0) (omega (arith, length-replicate {A = ℕ} 8 0)) in
-    let list : put_mid room (8 - room) (replicate 8 0) xs ≡ replicate room 0 ++ bytes =
-    ap (λ z. z ++ (xs ++ drop (8 - room) (drop room (replicate 8 0)))) prefix
-    ∙ ap (λ z. replicate room 0 ++ (xs ++ z)) after
-    ∙ ap (λ z. replicate room 0 ++ z) (append-nil xs ∙ same) in
-    ap (from_le_bytes w64) list ∙ read_is_spelled (replicate room 0 ++ bytes) (padded_len bytes few)
+    let whole = between_from_start (put_mid room (8 - room) (replicate 8 0) xs) 8 in
+    let written = take-put_mid room (8 - room) (replicate 8 0) xs 8 (omega (arith, ap length same)) (omega (arith, length-replicate {A = ℕ} 8 0)) in
+    let zeros : take room (replicate 8 0) ≡ replicate room 0 = take-replicate room 8 0 (omega arith) in
+    ap spelled (whole ∙ written ∙ (λ i. zeros i ++ same i))
 
 -- the bit of a letter's case in one byte, and in each of some bytes
 abbrev case_bit : Fold → ℕ
@@ -158,14 +142,7 @@ spelled_below (b ∷ bs) h =
 -- zeros in front are bytes too, and fold to themselves
 pub zeros_bytes : (n : ℕ) (bs : List ℕ) → AreBytes bs → AreBytes (replicate n 0 ++ bs)
 zeros_bytes zero bs h = h
-zeros_bytes (suc n) bs h = zero_first (replicate n 0 ++ bs) (zeros_bytes n bs h)
-  where
-    at : (s : List ℕ) → AreBytes s → (i : ℕ) → get_or (0 ∷ s) i 0 < 256
-    at s h zero = omega arith
-    at s h (suc i) = h.small i
-
-    zero_first : (s : List ℕ) → AreBytes s → AreBytes (0 ∷ s)
-    zero_first s h = record { small = at s h }
+zeros_bytes (suc n) bs h = record { small = more_bytes 0 (replicate n 0 ++ bs) (omega arith) (zeros_bytes n bs h) }
 
 -- where a word spells the bytes before a position, after zeros as eight, the key of its last bytes is the key there
 pub word_key : (fold : Fold) (text : List ℕ) (end width zeros word case : ℕ) → AreBytes text → width + zeros ≤ 8 → 8 ≤ end + zeros → end ≤ length text → word ≡ spelled (replicate zeros 0 ++ slice_range text (end - (8 - zeros)) end) → case ≡ case_bits fold
@@ -194,77 +171,52 @@ folded-zeros fold zero bs = refl
 folded-zeros No (suc n) bs = ap (λ s. 0 ∷ s) (folded-zeros No n bs)
 folded-zeros Ascii (suc n) bs = ap (λ s. 0 ∷ s) (folded-zeros Ascii n bs)
 
--- the last bytes of a literal are the folded bytes before its end
-last_bytes : (fold : Fold) (text t : List ℕ) (end width : ℕ) → width ≤ length t → length t ≤ end → end ≤ length text → folded_text fold (slice_range text (end - length t) end) ≡ t
-    → slice_range t (length t - width) (length t) ≡ folded_text fold (slice_range text (end - width) end)
-last_bytes fold text t end width wide room inside is =
-    let at : ℕ = length t - width in
-    let from : ℕ = end - length t in
-    between_to_end t at (length t) (omega arith)
-    ∙ ap (drop at) (sym is)
-    ∙ drop-map (folded fold) at (slice_range text from end)
-    ∙ ap (folded_text fold) (drop-range text from (end - width) at end (omega arith))
+module _ (fold : Fold) (text t : List ℕ) (end width back : ℕ) (wide : width + back ≤ length t) (begins : length t ≤ end) (is : folded_text fold (slice_range text (end - length t) end) ≡ t) where
+  -- some bytes of a literal that ends in the text, so far before its end, are the folded bytes as far before this end
+  pub bytes_before : slice_range t (length t - back - width) (length t - back) ≡ folded_text fold (slice_range text (end - back - width) (end - back))
+  bytes_before =
+      let at : ℕ = length t - back - width in
+      let from : ℕ = end - length t in
+      between_is t at (length t - back)
+      ∙ ap (drop at) (sym (prefix_folds fold text t end back (omega arith) begins is))
+      ∙ drop-map (folded fold) at (slice_range text from (end - back))
+      ∙ ap (folded_text fold) (drop-range text from (end - back - width) at (end - back) (omega arith))
 
--- a text that folds to a literal has the literal's key
-same_key : (fold : Fold) (text t : List ℕ) (end width : ℕ) → AreBytes text → width ≤ 8 → width ≤ length t → length t ≤ end → end ≤ length text → folded_text fold (slice_range text (end - length t) end) ≡ t
-    → suffix_key fold text end width ≡ suffix_key fold t (length t) width
-unfolding suffix_key
-same_key fold text t end width bytes narrow wide room inside is =
-    let part : List ℕ = slice_range text (end - width) end in
-    let zeros : List ℕ = replicate (8 - width) 0 in
-    let len : length part ≡ end - (end - width) = length-between text (end - width) end inside in
-    let whole : length (zeros ++ part) ≤ 8 = omega (arith, length-append zeros part, length-replicate {A = ℕ} (8 - width) 0) in
-    let small : AreBytes (zeros ++ part) = zeros_bytes (8 - width) part (range_bytes text (end - width) end inside bytes) in
-    let alike = spelled-folded fold 8 (zeros ++ part) whole small in
-    let fold_after : folded_text fold (zeros ++ part) ≡ zeros ++ folded_text fold part = folded-zeros fold (8 - width) part in
-    let literal = ap (λ s. bit_or (spelled (zeros ++ s)) (case_bits fold)) (last_bytes fold text t end width wide room inside is) in
-    subst (λ m. bit_or (spelled (zeros ++ part)) m ≡ bit_or (spelled (folded_text fold (zeros ++ part))) m) (eight_case_bits fold) (sym alike)
-    ∙ ap (λ s. bit_or (spelled s) (case_bits fold)) fold_after
-    ∙ sym literal
+  -- so they have one key
+  same_key : AreBytes text → width ≤ 8 → end ≤ length text → suffix_key fold text (end - back) width ≡ suffix_key fold t (length t - back) width
+  unfolding suffix_key
+  same_key bytes narrow inside =
+      let part : List ℕ = slice_range text (end - back - width) (end - back) in
+      let zeros : List ℕ = replicate (8 - width) 0 in
+      let len = length-between text (end - back - width) (end - back) (omega arith) in
+      let whole : length (zeros ++ part) ≤ 8 = omega (arith, len, length-append zeros part, length-replicate {A = ℕ} (8 - width) 0) in
+      let small : AreBytes (zeros ++ part) = zeros_bytes (8 - width) part (range_bytes text (end - back - width) (end - back) (omega arith) bytes) in
+      subst (λ m. bit_or (spelled (zeros ++ part)) m ≡ bit_or (spelled (folded_text fold (zeros ++ part))) m) (eight_case_bits fold) (sym (spelled-folded fold 8 (zeros ++ part) whole small))
+      ∙ ap (λ s. bit_or (spelled s) (case_bits fold)) (folded-zeros fold (8 - width) part)
+      ∙ ap (λ s. bit_or (spelled (zeros ++ s)) (case_bits fold)) (sym bytes_before)
 
 -- the literal that occurs is the one at its place
 pub literal_is : (l : Literals) (text : List ℕ) (place end : ℕ) (occurs : Occurs l text place end) → occurs.literal ≡ literal_at l place
 literal_is l text place end occurs = sym (get_or_from_slice_get l.texts place occurs.literal [] occurs.stands)
 
--- where a literal ends, the text has the literal's key
+-- so far before where a literal ends, the text has the key that the literal has there
+pub key-occurs_inside : (l : Literals) (text : List ℕ) (place end width back : ℕ) → AreBytes text → width ≤ 8 → width + back ≤ length (literal_at l place) → Occurs l text place end
+    → suffix_key l.folding text (end - back) width ≡ suffix_key l.folding (literal_at l place) (length (literal_at l place) - back) width
+key-occurs_inside l text place end width back bytes narrow wide occurs =
+    let t = occurs.literal in
+    subst (λ u. width + back ≤ length u → suffix_key l.folding text (end - back) width ≡ suffix_key l.folding u (length u - back) width) (literal_is l text place end occurs)
+    (λ w. same_key l.folding text t end width back w occurs.begins occurs.bytes bytes narrow occurs.ends) wide
+
+-- and where it ends, the literal's key
 pub key-occurs : (l : Literals) (text : List ℕ) (place end width : ℕ) → AreBytes text → width ≤ 8 → width ≤ length (literal_at l place) → Occurs l text place end
     → suffix_key l.folding text end width ≡ suffix_key l.folding (literal_at l place) (length (literal_at l place)) width
-key-occurs l text place end width bytes narrow wide occurs =
-    let t = occurs.literal in
-    let is = literal_is l text place end occurs in
-    subst (λ u. width ≤ length u → suffix_key l.folding text end width ≡ suffix_key l.folding u (length u) width) is
-    (λ w. same_key l.folding text t end width bytes narrow w occurs.begins occurs.ends occurs.bytes) wide
+key-occurs l text place end width bytes narrow wide occurs = simp unary_clauses at (key-occurs_inside l text place end width 0 bytes narrow (omega (arith, wide)) occurs)
 
 -- and so has a word that spells the last eight bytes
 pub word-occurs : (l : Literals) (text : List ℕ) (place end width word case : ℕ) → AreBytes text → width ≤ 8 → 8 ≤ end → width ≤ length (literal_at l place) → word ≡ spelled (slice_range text (end - 8) end) → case ≡ case_bits l.folding → Occurs l text place end
     → masked_key word width case ≡ last_key l width place
 word-occurs l text place end width word case bytes narrow room wide is same occurs =
     word_key l.folding text end width 0 word case bytes (omega arith) (omega arith) occurs.ends is same ∙ key-occurs l text place end width bytes narrow wide occurs
-
--- and so the text has, so far before where a literal ends, the key that the literal has there
-same_key_inside : (fold : Fold) (text t : List ℕ) (end width back : ℕ) → AreBytes text → width ≤ 8 → width + back ≤ length t → length t ≤ end → end ≤ length text → folded_text fold (slice_range text (end - length t) end) ≡ t
-    → suffix_key fold text (end - back) width ≡ suffix_key fold t (length t - back) width
-unfolding suffix_key
-same_key_inside fold text t end width back bytes narrow wide begins inside is =
-    let n : ℕ = length t - back in
-    let prefix : List ℕ = take n t in
-    let len : length prefix ≡ n = omega (arith, length-take n t) in
-    let from : end - back - length prefix ≡ end - length t = omega arith in
-    let there : folded_text fold (slice_range text (end - back - length prefix) (end - back)) ≡ prefix =
-    ap (λ k. folded_text fold (slice_range text k (end - back))) from ∙ prefix_folds fold text t end back (omega arith) begins is in
-    let part : slice_range prefix (n - width) n ≡ slice_range t (n - width) n =
-    between_is prefix (n - width) n ∙ ap (drop (n - width)) (take-take n n t (omega arith)) ∙ sym (between_is t (n - width) n) in
-    same_key fold text prefix (end - back) width bytes narrow (omega arith) (omega arith) (omega arith) there
-    ∙ ap (λ k. suffix_key fold prefix k width) len
-    ∙ ap (λ s. bit_or (spelled (replicate (8 - width) 0 ++ s)) (case_bits fold)) part
-
-pub key-occurs_inside : (l : Literals) (text : List ℕ) (place end width back : ℕ) → AreBytes text → width ≤ 8 → width + back ≤ length (literal_at l place) → Occurs l text place end
-    → suffix_key l.folding text (end - back) width ≡ suffix_key l.folding (literal_at l place) (length (literal_at l place) - back) width
-key-occurs_inside l text place end width back bytes narrow wide occurs =
-    let t = occurs.literal in
-    let is = literal_is l text place end occurs in
-    subst (λ u. width + back ≤ length u → suffix_key l.folding text (end - back) width ≡ suffix_key l.folding u (length u - back) width) is
-    (λ w. same_key_inside l.folding text t end width back bytes narrow w occurs.begins occurs.ends occurs.bytes) wide
 
 -- equally many bytes that spell one number are one text
 spelled_once : (xs ys : List ℕ) → AreBytes xs → AreBytes ys → length xs ≡ length ys → spelled xs ≡ spelled ys → xs ≡ ys

@@ -39,7 +39,7 @@ pub fn masked_key(word: u64, width: usize, case_bits: u64) -> u64
 
 /// The bits of the last `width` bytes of eight.
 #[inline]
-pub(crate) fn suffix_mask(width: usize) -> u64
+fn suffix_mask(width: usize) -> u64
     requires some { 0 < width }
     requires narrow { width ≤ 8 }
     ensures { result ≡ suffix_mask width }
@@ -74,7 +74,7 @@ fn padded_word(bytes: &[u8]) -> u64
 {
     let mut word = [0; 8];
     word[8 - bytes.len()..].copy_from_slice(bytes);
-    u64::from_le_bytes(word)
+    last_word(&word, 8)
 }
 
 /// The bit of letter case in each of eight bytes, or no bit if case counts.
