@@ -1,12 +1,12 @@
 -- Lists of hits: in their order, of a text, and joined.
-use Rattle.std.proofs.Common.{◌≡◌, ℕ, ◌+◌, ◌-◌, ◌<◌, ◌≤◌, List, [], ◌∷◌, ◌++◌, length, take, drop, Contains, ◌↔◌, inl, inr, refl, sym, ap, ◌∙◌, subst, arith, Bool, true, false, cond, eqb, ltb, eq-eqb}
-use Rattle.std.specs.declared.cmp.Ordering.TheVariants.{Less, Equal, Greater}
+use Rattle.std.proofs.Common.{◌≡◌, ℕ, ◌+◌, ◌-◌, ◌<◌, ◌≤◌, List, [], ◌∷◌, ◌++◌, length, take, drop, Contains, ◌↔◌, inl, inr, refl, sym, ap, ◌∙◌, subst, arith}
+use Rattle.std.specs.declared.cmp.Ordering.TheVariants.{Less, Equal}
 use Rattle.std.specs.declared.cmp.Ordering.{Ordering}
-use Rattle.std.specs.Ordering.{ordering_then}
+use Rattle.std.specs.Cmp.{nat_cmp_is}
+use Rattle.std.specs.Ordering.{nat_cmp, ordering_then}
 use Rattle.std.specs.List.Sorted.{IsStrictlySortedBy}
-use Rattle.std.proofs.lemmas.Bool.Decides.{Decides-ltb}
 use Rattle.std.proofs.lemmas.Bool.{cases_lt}
-use Rattle.std.proofs.lemmas.List.{append-nil, append_assoc, length-append, length-take, take-append-drop, take-take}
+use Rattle.std.proofs.lemmas.List.{append_assoc, length-append, length-take, take-append-drop, take-take}
 use Rattle.std.proofs.lemmas.List.Elements.{All-from_recursion, recursion_from_All, All-append, Contains-get_or, Contains-append_left, Contains-append_right, Contains-append_cases, Contains-push, Contains-push_cases}
 use Rattle.lit_base.specs.Literals.{Literals}
 use Rattle.lit_base.specs.Occurrences.{IsFirstEnding, NoneEnds, Occurs, hit_cmp}
@@ -28,12 +28,8 @@ sorted_joined R (x ∷ xs) ys s t below = (
 )
 
 -- a hit with an earlier end is below a hit with a later end
-first_decides : (b : Bool) (o p : Ordering) → b ≡ true → ordering_then (cond b Less o) p ≡ Less
-first_decides true o p e = refl
-first_decides false o p e = (cc)
-
 earlier_below : (h i : ℕ × ℕ) → h.1 < i.1 → hit_cmp h i ≡ Less
-earlier_below h i earlier = first_decides (ltb h.1 i.1) _ _ ((Decides-ltb h.1 i.1).1 earlier)
+earlier_below h i earlier = ap (λ o. ordering_then o (nat_cmp h.0 i.0)) (sym (nat_cmp_is h.1 i.1 Less earlier))
 
 -- an occurrence at an end that is written otherwise
 at_end : (l : Literals) (text : List ℕ) (place e f : ℕ) → e ≡ f → Occurs l text place e → Occurs l text place f
@@ -111,27 +107,10 @@ hits_further l text from m end at found here starts after within first early hit
     (subst (λ t. AreHitsAfter l t from at found) (sym prefix) early)
     (hits_here l text m end (at + (m - from)) here after within first (subst (λ x. AreHitsAt l text end x here) same hits))
 
--- the hits up to a position after which nothing ends are all hits
-pub hits_ended : (l : Literals) (text : List ℕ) (from m at : ℕ) (found : List (ℕ × ℕ)) → from ≤ m → m ≤ length text → NoEndAfter l text m → AreHitsAfter l (take m text) from at found → AreHitsAfter l text from at found
-hits_ended l text from m at found starts within none early =
-    subst (AreHitsAfter l text from at) (append-nil found) (hits_joined l text from m at found [] starts within early (hits_none l text m (at + (m - from)) none))
-
 -- of two hits that end together, the hit of the earlier literal is below the other
-second_decides : (b c d : Bool) (o : Ordering) → c ≡ true → d ≡ true → ordering_then (cond b Less (cond c Equal Greater)) (cond d Less o) ≡ Less
-second_decides true c d o e f = refl
-second_decides false true true o e f = refl
-second_decides false true false o e f = (cc)
-second_decides false false d o e f = (cc)
-
 lower_below : (h i : ℕ × ℕ) → h.1 ≡ i.1 → h.0 < i.0 → hit_cmp h i ≡ Less
 lower_below h i together lower =
-    second_decides (ltb h.1 i.1) (eqb h.1 i.1) (ltb h.0 i.0) _ (eq-eqb h.1 i.1 together) ((Decides-ltb h.0 i.0).1 lower)
-
-same_pair : (h i : ℕ × ℕ) → h.0 ≡ i.0 → h.1 ≡ i.1 → h ≡ i
-same_pair h i e f =
-    let first : ℕ → ℕ × ℕ = λ p. (p, h.1) in
-    let second : ℕ → ℕ × ℕ = λ a. (i.0, a) in
-    ap first e ∙ ap second f
+    ap (λ o. ordering_then o (nat_cmp h.0 i.0)) (sym (nat_cmp_is h.1 i.1 Equal together)) ∙ sym (nat_cmp_is h.0 i.0 Less lower)
 
 -- the elements of a list of one
 only_one : (h i : ℕ × ℕ) → Contains (h ∷ []) i → h ≡ i
@@ -168,8 +147,10 @@ hits_at_more l text end at from place found early next = record {
       | inl sooner ↦ Contains-append_left found ((place, at) ∷ []) (other, position) ((early.members other position).1 (w.0, sooner, w.2))
       | inr later ↦ elim (cases_lt other place) [
         | inl between ↦ absurd (next.first other later between w.2)
-        | inr there ↦ let p : place ≡ other = omega (arith, w.1, there) in
-            subst (Contains (found ++ (place, at) ∷ [])) (same_pair (place, at) (other, position) p (sym w.0)) (Contains-push found (place, at))
+        | inr there ↦
+            let p : place ≡ other = omega (arith, w.1, there) in
+            let same : at ≡ position = sym w.0 in
+            subst (Contains (found ++ (place, at) ∷ [])) (λ k. (p k, same k)) (Contains-push found (place, at))
       ]
     ],
   );

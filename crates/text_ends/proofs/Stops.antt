@@ -8,7 +8,7 @@ use Rattle.lit_base.specs.Literals.{Literals}
 use Rattle.lit_base.specs.NextEnds.{IsNextEnd, NoEndAfter}
 use Rattle.text_ends.specs.HitsAt.{GainsHitsAt}
 use Rattle.text_ends.specs.HitsAfter.{AreHitsAfter, GainsHitsAfter, StopsAt}
-use Rattle.text_ends.proofs.HitLists.{gained_both, gained_more, hits_ended, hits_further, hits_joined, hits_none, none_past}
+use Rattle.text_ends.proofs.HitLists.{gained_both, gained_more, hits_further, hits_joined, hits_none, none_past}
 
 -- a search that gained fewer hits than it asked for reached the text's end
 pub to_end : (l : Literals) (text : List ℕ) (from at most stop : ℕ) (old new : List (ℕ × ℕ)) → StopsAt l text from at most stop old new → length new < length old + most → stop ≡ length text
@@ -23,32 +23,21 @@ all_searched l text from at most stop old new small search =
     let there : stop ≡ length text = to_end l text from at most stop old new search (omega (arith, small)) in
     subst (λ t. GainsHitsAfter l t from at old new) (take_all stop text (omega (arith, there))) search.gained
 
--- a list that gained the hits up to a position of a text, and then those after it, gained the text's
-pub gained_joined : (l : Literals) (text : List ℕ) (from m at : ℕ) (old middle new : List (ℕ × ℕ)) → from ≤ m → m ≤ length text
-    → GainsHitsAfter l (take m text) from at old middle → GainsHitsAfter l text m (at + (m - from)) middle new → GainsHitsAfter l text from at old new
-gained_joined l text from m at old middle new starts within early late = record {
-  found = early.found ++ late.found;
-  grown = gained_both old middle new early.found late.found early.grown late.grown;
-  added = hits_joined l text from m at early.found late.found starts within early.added late.added;
-}
-
--- so too where it stops before the text's end each time
-pub gained_further : (l : Literals) (text : List ℕ) (from m stop : ℕ) (old middle new : List (ℕ × ℕ)) → from ≤ m → m ≤ stop → stop ≤ length text
-    → GainsHitsAfter l (take m text) from from old middle → GainsHitsAfter l (take stop text) m m middle new → GainsHitsAfter l (take stop text) from from old new
-gained_further l text from m stop old middle new starts further within early late =
-    let prefix : take m (take stop text) ≡ take m text = take-take m stop text further in
-    let position : m ≡ from + (m - from) = omega (arith, starts) in
-    gained_joined l (take stop text) from m from old middle new starts (omega (arith, further, within, length-take stop text))
-    (subst (λ t. GainsHitsAfter l t from from old middle) (sym prefix) early)
-    (subst (λ x. GainsHitsAfter l (take stop text) m x middle new) position late)
-
--- so too where the later search covers a span of the text
+-- a list that gained the hits up to a position of a text, and then those of a search of a span after it, gained the
+-- hits up to where this search stopped
 pub span_gained : (l : Literals) (text : List ℕ) (from m span most stop : ℕ) (old middle new : List (ℕ × ℕ)) → from ≤ m → span ≤ length text
     → GainsHitsAfter l (take m text) from from old middle → StopsAt l (take span text) m m most stop middle new → GainsHitsAfter l (take stop text) from from old new
 span_gained l text from m span most stop old middle new starts within early late =
+    let more = late.gained in
     let inside : stop ≤ span = omega (arith, late.within, length-take span text) in
-    let prefix : take stop (take span text) ≡ take stop text = take-take stop span text inside in
-    gained_further l text from m stop old middle new starts late.after (omega (arith, inside, within)) early (subst (λ t. GainsHitsAfter l t m m middle new) prefix late.gained)
+    let position : m ≡ from + (m - from) = omega (arith, starts) in
+    record {
+      found = early.found ++ more.found;
+      grown = gained_both old middle new early.found more.found early.grown more.grown;
+      added = hits_joined l (take stop text) from m from early.found more.found starts (omega (arith, late.after, inside, within, length-take stop text))
+          (subst (λ t. AreHitsAfter l t from from early.found) (sym (take-take m stop text late.after)) early.added)
+          (subst (λ x. AreHitsAfter l (take stop text) m x more.found) position (subst (λ t. AreHitsAfter l t m m more.found) (take-take stop span text inside) more.added));
+    }
 
 -- from the end of a list on there are no hits
 pub none_late : (n : ℕ) (new : List (ℕ × ℕ)) (hit : ℕ × ℕ) → length new ≤ n → ¬ Contains (drop n new) hit
@@ -113,7 +102,8 @@ pub gained_ended : (l : Literals) (text : List ℕ) (from m at : ℕ) (old new :
 gained_ended l text from m at old new starts within none early = record {
   found = early.found;
   grown = early.grown;
-  added = hits_ended l text from m at early.found starts within none early.added;
+  added = subst (AreHitsAfter l text from at) (append-nil early.found)
+      (hits_joined l text from m at early.found [] starts within early.added (hits_none l text m (at + (m - from)) none));
 }
 
 -- from no hits on, they are all that a list gained
