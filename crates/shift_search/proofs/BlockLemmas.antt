@@ -9,10 +9,11 @@ use Rattle.shift_search.specs.ShiftOr.{Bucketing, RulesOut, RulesOutWords}
 use Rattle.shift_search.proofs.ShiftOrLemmas.{none_of_word, none_of_words}
 
 -- after the groups of a block one more is probed: four words say which ends are ruled out, and it is noted, or nothing ends there
-pub one_more : (b : Bucketing) (text : List ℕ) (at group count more : ℕ) (words four numbers : List ℕ) → length four ≡ 4 → 4 * group + 4 ≤ length words → count < length numbers → more ≤ 1
-    → RulesOutWords b text (at + 32 * group) four → (more ≡ 1) ⊎ NoEndUpTo b.literals text (at + 32 * group - 1) (at + 32 * group + 31) → IsBlock b text at group words numbers count
-    → IsBlock b text at (group + 1) (put_chunk (4 * group) words four) (slice_set numbers count group) (count + more)
-one_more b text at group count more words four numbers long room place upto rules known block = record {
+pub one_more : (b : Bucketing) (text : List ℕ) (at group count more : ℕ) (words four numbers : List ℕ) (before after : ℕ) → length four ≡ 4 → 4 * group + 4 ≤ length words → count < length numbers → more ≤ 1
+    → RulesOutWords b text (at + 32 * group) four → (more ≡ 1) ⊎ NoEndUpTo b.literals text (at + 32 * group - 1) (at + 32 * group + 31) → RulesOut b text (at + 32 * (group + 1)) after → IsBlock b text at group words numbers count before
+    → IsBlock b text at (group + 1) (put_chunk (4 * group) words four) (slice_set numbers count group) (count + more) after
+one_more b text at group count more words four numbers before after long room place upto rules known later block = record {
+  after = later;
   rules = λ word below. elim (cases_lt word (4 * group)) [
     | inl sooner ↦ subst (RulesOut b text (at + 8 * word)) (sym (get_or-put_chunk_below (4 * group) words four word 0 sooner)) (block.rules word sooner)
     | inr past ↦
@@ -44,20 +45,11 @@ one_more b text at group count more words four numbers long room place upto rule
   ];
 }
 
--- a noted group stays noted
-pub noted_still : (old new : List ℕ) (before after number : ℕ) → before ≤ after → ((slot : ℕ) → slot < before → slice_index new slot ≡ slice_index old slot) → IsNoted old before number → IsNoted new after number
-noted_still old new before after number more kept noted = record { slot = noted.slot; below = omega (arith, noted.below, more); is = kept noted.slot noted.below ∙ noted.is }
-
--- so is a word
-pub word_still : (words old new : List ℕ) (before after word : ℕ) → before ≤ after → ((slot : ℕ) → slot < before → slice_index new slot ≡ slice_index old slot) → IsNotedUnlessFull words old before word → IsNotedUnlessFull words new after word
-word_still words old new before after word more kept (inl full) = inl full
-word_still words old new before after word more kept (inr noted) = inr (noted_still old new before after word more kept noted)
-
 -- the noted words of the groups of a block are those at whose positions a literal may end
-pub words_noted : (b : Bucketing) (text : List ℕ) (at groups : ℕ) (words numbers noted : List ℕ) (count found : ℕ) → 8 ≤ at → IsBlock b text at groups words numbers count
+pub words_noted : (b : Bucketing) (text : List ℕ) (at groups : ℕ) (words numbers noted : List ℕ) (count found after : ℕ) → 8 ≤ at → IsBlock b text at groups words numbers count after
     → ((slot : ℕ) → slot < found → slice_index noted slot < 4 * groups) → ((slot i : ℕ) → slot < count → i < 4 → IsNotedUnlessFull words noted found (4 * slice_index numbers slot + i))
     → AreNoted b text at groups words noted found
-words_noted b text at groups words numbers noted count found some block inside known = record {
+words_noted b text at groups words numbers noted count found after some block inside known = record {
   rules = block.rules;
   inside = inside;
   noted = λ word below.

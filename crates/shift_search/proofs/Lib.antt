@@ -1,3 +1,4 @@
 pub mod BlockLemmas
+pub mod EntryLemmas
 pub mod JoiningLemmas
 pub mod ShiftOrLemmas

@@ -9,10 +9,11 @@ pub record IsNoted (numbers : List ℕ) (count number : ℕ) : Type 0 where
   pub below : slot < count
   pub is : slice_index numbers slot ≡ number
 
--- `passed` groups of 32 positions: each word rules out ends at eight positions, and if a literal ends in a group, its number is noted
-pub record IsBlock (b : Bucketing) (text : List ℕ) (at passed : ℕ) (words numbers : List ℕ) (count : ℕ) : Type 0 where
+-- `passed` groups of 32 positions: each word rules out ends at eight positions, `carried` those after the groups, and if a literal ends in a group, its number is noted
+pub record IsBlock (b : Bucketing) (text : List ℕ) (at passed : ℕ) (words numbers : List ℕ) (count carried : ℕ) : Type 0 where
   pub rules : (word : ℕ) → word < 4 * passed → RulesOut b text (at + 8 * word) (slice_index words word)
   pub numbered : (slot : ℕ) → slot < count → slice_index numbers slot < passed
+  pub after : RulesOut b text (at + 32 * passed) carried
   pub noted : (group : ℕ) → group < passed → NoEndUpTo b.literals text (at + 32 * group - 1) (at + 32 * group + 31) ⊎ IsNoted numbers count group
 
 -- a word is noted, or has all its bits

@@ -1,5 +1,5 @@
 -- The state of a search by shift-or: the ends that are not ruled out at eight positions in a row, and the ends that are ruled out after them.
-use Rattle.std.specs.Prelude.{◌≡◌, ℕ, ◌+◌, ◌-◌, ◌*◌, ◌/◌, ◌<◌, ◌≤◌, List, length, max}
+use Rattle.std.specs.Prelude.{◌≡◌, ℕ, ◌+◌, ◌-◌, ◌*◌, ◌/◌, ◌<◌, ◌≤◌, List, MatchOption, Option, length, max}
 use Rattle.std.specs.Int.{bit_at}
 use Rattle.lit_base.specs.Occurrences.{Occurs}
 use Rattle.lit_base.specs.NextEnds.{IsFirstFound, NoEndUpTo}
@@ -27,3 +27,15 @@ AreProbesAfter b text from probes = AreProbes b text (max from FIRST) probes
 pub record IsVerified (b : Bucketing) (text : List ℕ) (from : ℕ) (found : Verified) : Type 0 where
   pub first : IsFirstFound b.literals text from found.end found.first
   pub probes : AreProbes b text found.end found.probes
+
+-- what a search finds after a position and up to another one
+abbrev pub FindsVerified : Bucketing → List ℕ → ℕ → ℕ → Option Verified → Type 0
+FindsVerified b text from last found = MatchOption found (NoEndUpTo b.literals text from last) (IsVerified b text from)
+
+-- nothing ends after a position and up to seven positions after another one, and `carried` rules out ends at the next eight
+pub record IsPassed (b : Bucketing) (text : List ℕ) (from at carried : ℕ) : Type 0 where
+  pub some : 8 ≤ at
+  pub near : from ≤ at + 7
+  pub within : at + 7 ≤ max from (length text)
+  pub none : NoEndUpTo b.literals text from (at + 7)
+  pub rules : RulesOut b text (at + 8) carried

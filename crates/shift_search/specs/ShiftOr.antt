@@ -1,5 +1,5 @@
 -- Which ends of literals the bytes before some positions rule out, bucket by bucket: shift-or over buckets of literals.
-use Rattle.std.specs.Prelude.{◌≡◌, ℕ, ◌+◌, ◌-◌, ◌*◌, ◌%◌, ◌<◌, ◌≤◌, ◌⊎◌, List, length, slice_index, ◌/◌, ◌^◌}
+use Rattle.std.specs.Prelude.{◌≡◌, ℕ, ◌+◌, ◌-◌, ◌*◌, ◌%◌, ◌<◌, ◌≤◌, ◌↔◌, ◌⊎◌, List, length, slice_index, ◌/◌, ◌^◌}
 use Rattle.std.specs.Int.{bit_at}
 use Rattle.std.specs.Int.RustNames.{bit_or}
 use Rattle.lit_base.specs.Literals.{Literals, literal_at}
@@ -56,49 +56,43 @@ pub record AreRuled (b : Bucketing) (text : List ℕ) (at : ℕ) (ruled : FourRu
 abbrev pub NoneOf : Bucketing → List ℕ → ℕ → ℕ → Type 0
 NoneOf b text bucket end = (place : ℕ) → bucket_at b.buckets place ≡ bucket → ¬ Occurs b.literals text place end
 
--- the entries of a table pass a literal: the entry of each pair of its bytes, each entry of its first byte after any other byte, and every entry that the literal does not reach
-pub record IsLetThrough (fold : Fold) (entries literal : List ℕ) (bucket : ℕ) : Type 0 where
-  pub pairs : (ahead : ℕ) → ahead < 8 → 2 + ahead ≤ length literal → bit_at (slice_index entries (number_at fold literal (length literal - ahead))) (8 * ahead + bucket) ≡ 0
-  pub first : (ahead number : ℕ) → ahead < 8 → length literal ≡ 1 + ahead → number < ENTRIES → number / 256 ≡ last_number_at fold literal 1 → bit_at (slice_index entries number) (8 * ahead + bucket) ≡ 0
-  pub short : (ahead number : ℕ) → ahead < 8 → length literal ≤ ahead → number < ENTRIES → bit_at (slice_index entries number) (8 * ahead + bucket) ≡ 0
+-- a literal that ends `ahead` positions after two bytes does not reach back to them
+abbrev pub IsShort : List ℕ → ℕ → Type 0
+IsShort literal ahead = length literal ≤ ahead
 
--- the entries pass each literal of a list
-abbrev pub LetThrough : Literals → List ℕ → List ℕ → ℕ → Type 0
-LetThrough l buckets entries count = (place : ℕ) → place < count → place < length l.texts → IsLetThrough l.folding entries (literal_at l place) (bucket_at buckets place)
+-- it begins with the last of the two bytes that a number spells, or has both there
+abbrev pub FitsPair : Fold → ℕ → List ℕ → ℕ → Type 0
+FitsPair fold number literal ahead = ((length literal ≡ 1 + ahead) × (number / 256 ≡ last_number_at fold literal 1))
+    ⊎ ((2 + ahead ≤ length literal) × (number ≡ number_at fold literal (length literal - ahead)))
 
--- a literal that ends `ahead` positions after two bytes does not reach back to them, begins with the last, or has both there
-abbrev pub FitsPair : Fold → List ℕ → ℕ → ℕ → Type 0
-FitsPair fold literal ahead number = (length literal ≤ ahead) ⊎ (((length literal ≡ 1 + ahead) × (number / 256 ≡ last_number_at fold literal 1)) ⊎ ((2 + ahead ≤ length literal) × (number ≡ number_at fold literal (length literal - ahead))))
+-- the bit is that of a literal's bucket, and of an end for which the literal fits
+abbrev pub IsPassOf : (List ℕ → ℕ → Type 0) → List ℕ → ℕ → ℕ → Type 0
+IsPassOf Fits literal bucket bit = (bit % 8 ≡ bucket) × Fits literal (bit / 8)
 
--- a literal of a bucket needs the entry of two bytes to lack a bit: that of its bucket and of an end where it fits the bytes
-pub record IsPassOf (fold : Fold) (literal : List ℕ) (bucket number bit : ℕ) : Type 0 where
-  pub ahead : ℕ
-  pub near : ahead < 8
-  pub its : bit ≡ 8 * ahead + bucket
-  pub fits : FitsPair fold literal ahead number
-
--- one of the first literals of a list needs the entry to lack the bit
-pub record IsPass (l : Literals) (buckets : List ℕ) (count number bit : ℕ) : Type 0 where
+-- the bit is that of one of the first literals of a list
+pub record IsPass (l : Literals) (buckets : List ℕ) (Fits : List ℕ → ℕ → Type 0) (count bit : ℕ) : Type 0 where
   pub place : ℕ
   pub within : place < count
-  pub is : IsPassOf l.folding (literal_at l place) (bucket_at buckets place) number bit
+  pub is : IsPassOf Fits (literal_at l place) (bucket_at buckets place) bit
 
--- the bit is that of a bucket and of an end from which a literal of `len` bytes does not reach back to the entry's bytes
-pub record IsPastReach (len bucket bit : ℕ) : Type 0 where
-  pub ahead : ℕ
-  pub near : ahead < 8
-  pub its : bit ≡ 8 * ahead + bucket
-  pub past : len ≤ ahead
+-- a word lacks some bits, and else those alone that it lacked before
+abbrev pub IsCleared : ℕ → ℕ → (ℕ → Type 0) → Type 0
+IsCleared old new Bits = (bit : ℕ) → bit < 64 → (bit_at new bit ≡ 0) ↔ ((bit_at old bit ≡ 0) ⊎ Bits bit)
 
--- each entry lacks a bit only if some literal needs it to lack that bit; its two bytes count without the case of letters
-abbrev pub RulesOutElse : Literals → List ℕ → List ℕ → Type 0
-RulesOutElse l buckets entries = (number bit : ℕ) → number < ENTRIES → bit < 64 → bit_at (slice_index entries number) bit ≡ 0 → IsPass l buckets (length l.texts) (bit_or number (pair_case_bits l.folding)) bit
+-- so does each word of a table
+abbrev pub AreCleared : List ℕ → List ℕ → (ℕ → ℕ → Type 0) → Type 0
+AreCleared old new Bits = (number : ℕ) → IsCleared (slice_index old number) (slice_index new number) (Bits number)
 
--- a table has an entry for each pair of bytes. The entries pass each literal, and do not depend on the case of letters if case is ignored
+-- a literal of the list needs the entry of two bytes to lack a bit: it does not reach back to them, or fits them
+abbrev pub IsNeeded : Literals → List ℕ → ℕ → ℕ → Type 0
+IsNeeded l buckets number bit = IsPass l buckets IsShort (length l.texts) bit
+    ⊎ IsPass l buckets (FitsPair l.folding number) (length l.texts) bit
+
+-- a table has an entry for each pair of bytes. It lacks the bits that some literal needs it to lack, and no others; its two bytes count without the case of letters
 pub record AreEntriesOf (l : Literals) (buckets entries : List ℕ) : Type 0 where
   pub all : length entries ≡ ENTRIES
-  pub through : LetThrough l buckets entries (length l.texts)
-  pub alike : (number : ℕ) → number < ENTRIES → slice_index entries number ≡ slice_index entries (bit_or number (pair_case_bits l.folding))
+  pub each : (number bit : ℕ) → number < ENTRIES → bit < 64 → (bit_at (slice_index entries number) bit ≡ 0)
+      ↔ IsNeeded l buckets (bit_or number (pair_case_bits l.folding)) bit
 
 -- the buckets have key lengths from one to eight bytes, and none of the first literals is shorter than its bucket's
 pub record AreWidthsOf (l : Literals) (buckets widths : List ℕ) (count : ℕ) : Type 0 where

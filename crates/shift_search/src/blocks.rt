@@ -48,9 +48,7 @@ pub(crate) fn probe_block<const STEP: usize>(
     ensures groups { length groups.new ≡ length groups.old }
     ensures few { result.count ≤ GROUPS }
     ensures block { (b : Bucketing) → AreEntriesOf b.literals b.buckets entries.now → RulesOut b text.now at (slice_index before 3)
-        → IsBlock b text.now at GROUPS words.new groups.new result.count }
-    ensures after { (b : Bucketing) → AreEntriesOf b.literals b.buckets entries.now → RulesOut b text.now at (slice_index before 3)
-        → RulesOut b text.now (at + GROUP * GROUPS) (slice_index result.after 3) }
+        → IsBlock b text.now at GROUPS words.new groups.new result.count (slice_index result.after 3) }
 {
     let mut after = before;
     let mut count = 0usize;

@@ -1,8 +1,6 @@
 //! The entries of shift-or: which ends the two bytes before a position rule out.
-ghost use Rattle.std.specs.Prelude.{◌≡◌, ℕ, ◌+◌, ◌-◌, ◌*◌, ◌/◌, ◌^◌, ◌<◌, ◌≤◌, ◌⊎◌, IsTrue, bit_or, length, slice_index, vec_capacity, vec_len};
-ghost use Rattle.std.specs.Int.{bit_at};
-ghost use Rattle.lit_base.specs.Literals.{literal_at};
-ghost use Rattle.shift_search.specs.ShiftOr.{AreEntriesOf, IsPass, IsPassOf, IsPastReach, LetThrough, RulesOutElse, bucket_at, number_at, last_number_at};
+ghost use Rattle.std.specs.Prelude.{◌≡◌, ℕ, ◌+◌, ◌<◌, ◌≤◌, ◌↔◌, bit_or, length, slice_index, vec_capacity, vec_len};
+ghost use Rattle.shift_search.specs.ShiftOr.{AreCleared, AreEntriesOf, FitsPair, IsCleared, IsPass, IsPassOf, IsShort, bucket_at};
 ghost use Rattle.shift_search.specs.declared.entries.TheConstants.{ENTRIES};
 
 use list_index::{case_bits, suffix_key};
@@ -34,88 +32,41 @@ pub(crate) fn fill_all(list: &LitList, buckets: &Vec<u8>, entries: &mut Vec<u64>
     requires buckets { vec_len buckets.now ≡ length list.now.texts }
     requires none { vec_len entries.old ≡ 0 }
     requires room { ENTRIES ≤ vec_capacity entries.old }
-    ensures through { AreEntriesOf list.now buckets.now.items entries.new.items }
-    ensures only { RulesOutElse list.now buckets.now.items entries.new.items }
+    ensures { AreEntriesOf list.now buckets.now.items entries.new.items }
 {
-    fill_with(entries, base_of(list, buckets));
+    fill_with(entries, without_short(ALL, list, buckets));
     let_all_through(list, buckets, entries);
     leave_case_out(entries, (case_bits(list.fold()) >> 48) as usize);
 }
 
-/// Clears the bits that would rule out a literal of the list.
-fn let_all_through(list: &LitList, buckets: &Vec<u8>, entries: &mut Vec<u64>)
-    requires buckets { vec_len buckets.now ≡ length list.now.texts }
-    requires room { vec_len entries.old ≡ ENTRIES }
-    requires short { (place ahead number : ℕ) → place < length list.now.texts → ahead < 8 → length (literal_at list.now place) ≤ ahead → number < ENTRIES → bit_at (slice_index entries.old.items number) (8 * ahead + bucket_at buckets.now.items place) ≡ 0 }
-    ensures len { vec_len entries.new ≡ ENTRIES }
-    ensures through { LetThrough list.now buckets.now.items entries.new.items (length list.now.texts) }
-    ensures only { (number bit : ℕ) → bit < 64 → bit_at (slice_index entries.new.items number) bit ≡ 0
-        → (bit_at (slice_index entries.old.items number) bit ≡ 0) ⊎ IsPass list.now buckets.now.items (length list.now.texts) number bit }
-{
-    for place in 0..list.len() {
-        let bucket = bucket_of(buckets, place);
-        let_through(entries, list.fold(), list.get(place), bucket);
-    }
-}
-
-/// Copies each entry from its two bytes without the bits of case, so that a probe can use the bytes as they stand.
-fn leave_case_out(entries: &mut Vec<u64>, case_bits: usize)
-    requires room { vec_len entries.old ≡ ENTRIES }
-    requires small { case_bits < ENTRIES }
-    ensures len { vec_len entries.new ≡ ENTRIES }
-    ensures alike { (number : ℕ) → number < ENTRIES → slice_index entries.new.items number ≡ slice_index entries.old.items (bit_or number case_bits) }
-{
-    if case_bits != 0 {
-        for number in 0..ENTRIES {
-            entries[number] = entries[number | case_bits];
-        }
-    }
-}
-
-/// The entry that passes ends for which two bytes say nothing: ends too far ahead of them for the literal's length.
-fn base_of(list: &LitList, buckets: &Vec<u8>) -> u64
+/// Clears the bits of an entry for which its bytes say nothing: of ends too far ahead of them for some literal's length.
+fn without_short(entry: u64, list: &LitList, buckets: &Vec<u8>) -> u64
     requires { vec_len buckets.now ≡ length list.now.texts }
-    ensures short { (place ahead : ℕ) → place < length list.now.texts → ahead < 8 → length (literal_at list.now place) ≤ ahead → bit_at result (8 * ahead + bucket_at buckets.now.items place) ≡ 0 }
-    ensures only { (number bit : ℕ) → bit < 64 → bit_at result bit ≡ 0 → IsPass list.now buckets.now.items (length list.now.texts) number bit }
-{
-    let mut base = ALL;
-    for place in 0..list.len() {
-        let bucket = bucket_of(buckets, place);
-        base = without_short(base, list.get(place).len(), bucket);
-    }
-    base
-}
-
-/// Clears the bits of a bucket at which a literal of `len` bytes does not reach back to the entry's bytes.
-fn without_short(entry: u64, len: usize, bucket: usize) -> u64
-    requires { bucket < 8 }
-    ensures short { (ahead : ℕ) → ahead < 8 → len ≤ ahead → bit_at result (8 * ahead + bucket) ≡ 0 }
-    ensures kept { (bit : ℕ) → bit < 64 → bit_at entry bit ≡ 0 → bit_at result bit ≡ 0 }
-    ensures only { (bit : ℕ) → bit < 64 → bit_at result bit ≡ 0 → (bit_at entry bit ≡ 0) ⊎ IsPastReach len bucket bit }
+    ensures { IsCleared entry result (IsPass list.now buckets.now.items IsShort (length list.now.texts)) }
 {
     let mut found = entry;
-    for ahead in 0..PLACES {
-        found = without_if(found, len <= ahead, 8 * ahead + bucket);
+    for place in 0..list.len() {
+        found = without_ends(found, list.get(place), bucket_of(buckets, place));
     }
     found
 }
 
-/// An entry without a bit, if asked.
-fn without_if(entry: u64, is_asked: bool, bit: usize) -> u64
-    requires { bit < 64 }
-    ensures cleared { IsTrue is_asked → bit_at result bit ≡ 0 }
-    ensures kept { (other : ℕ) → other < 64 → bit_at entry other ≡ 0 → bit_at result other ≡ 0 }
-    ensures only { (other : ℕ) → other < 64 → bit_at result other ≡ 0 → (bit_at entry other ≡ 0) ⊎ ((IsTrue is_asked) × (other ≡ bit)) }
+/// Clears the bits of a bucket for the ends from which a literal does not reach back to the entry's bytes.
+fn without_ends(entry: u64, literal: &[u8], bucket: usize) -> u64
+    requires { bucket < 8 }
+    ensures { IsCleared entry result (IsPassOf IsShort literal.now bucket) }
 {
-    if is_asked { without(entry, bit) } else { entry }
+    let mut found = entry;
+    for ahead in literal.len()..PLACES {
+        found = without(found, 8 * ahead + bucket);
+    }
+    found
 }
 
 /// An entry without a bit.
 fn without(entry: u64, bit: usize) -> u64
     requires { bit < 64 }
-    ensures cleared { bit_at result bit ≡ 0 }
-    ensures kept { (other : ℕ) → other < 64 → bit_at entry other ≡ 0 → bit_at result other ≡ 0 }
-    ensures only { (other : ℕ) → other < 64 → bit_at result other ≡ 0 → (bit_at entry other ≡ 0) ⊎ (other ≡ bit) }
+    ensures { IsCleared entry result (λ other. other ≡ bit) }
 {
     entry & !(1 << bit)
 }
@@ -131,85 +82,75 @@ fn fill_with(entries: &mut Vec<u64>, entry: u64)
     let _is_done = entries.resize(ENTRIES, entry);
 }
 
-/// Passes a literal of a bucket: at each pair of its bytes, and at its first byte after any other byte.
+/// Clears the bits that would rule out a literal of the list.
+fn let_all_through(list: &LitList, buckets: &Vec<u8>, entries: &mut Vec<u64>)
+    requires buckets { vec_len buckets.now ≡ length list.now.texts }
+    requires room { vec_len entries.old ≡ ENTRIES }
+    ensures len { vec_len entries.new ≡ ENTRIES }
+    ensures cleared { AreCleared entries.old.items entries.new.items
+        (λ number. IsPass list.now buckets.now.items (FitsPair list.now.folding number) (length list.now.texts)) }
+{
+    for place in 0..list.len() {
+        let bucket = bucket_of(buckets, place);
+        let_through(entries, list.fold(), list.get(place), bucket);
+    }
+}
+
+/// Passes a literal of a bucket at its bytes, up to eight of them.
 fn let_through(entries: &mut Vec<u64>, fold: Fold, literal: &[u8], bucket: usize)
-    requires some { 0 < length literal.now }
     requires room { vec_len entries.old ≡ ENTRIES }
     requires bucket { bucket < 8 }
-    ensures len { vec_len entries.new ≡ vec_len entries.old }
-    ensures pairs { (ahead : ℕ) → ahead < 8 → 2 + ahead ≤ length literal.now → bit_at (slice_index entries.new.items (number_at fold literal.now (length literal.now - ahead))) (8 * ahead + bucket) ≡ 0 }
-    ensures first { (ahead number : ℕ) → ahead < 8 → length literal.now ≡ 1 + ahead → number < ENTRIES → number / 256 ≡ last_number_at fold literal.now 1 → bit_at (slice_index entries.new.items number) (8 * ahead + bucket) ≡ 0 }
-    ensures kept { (number bit : ℕ) → bit < 64 → bit_at (slice_index entries.old.items number) bit ≡ 0 → bit_at (slice_index entries.new.items number) bit ≡ 0 }
-    ensures only { (number bit : ℕ) → bit < 64 → bit_at (slice_index entries.new.items number) bit ≡ 0
-        → (bit_at (slice_index entries.old.items number) bit ≡ 0) ⊎ IsPassOf fold literal.now bucket number bit }
+    ensures len { vec_len entries.new ≡ ENTRIES }
+    ensures cleared { AreCleared entries.old.items entries.new.items
+        (λ number. IsPassOf (FitsPair fold number) literal.now bucket) }
 {
-    let_pairs_through(entries, fold, literal, bucket);
-    if literal.len() <= PLACES {
-        let_first_through(entries, fold, literal, bucket);
-    }
-}
-
-/// Passes a literal at each pair of its bytes.
-fn let_pairs_through(entries: &mut Vec<u64>, fold: Fold, literal: &[u8], bucket: usize)
-    requires room { vec_len entries.old ≡ ENTRIES }
-    requires bucket { bucket < 8 }
-    ensures len { vec_len entries.new ≡ vec_len entries.old }
-    ensures pairs { (ahead : ℕ) → ahead < 8 → 2 + ahead ≤ length literal.now → bit_at (slice_index entries.new.items (number_at fold literal.now (length literal.now - ahead))) (8 * ahead + bucket) ≡ 0 }
-    ensures kept { (number bit : ℕ) → bit < 64 → bit_at (slice_index entries.old.items number) bit ≡ 0 → bit_at (slice_index entries.new.items number) bit ≡ 0 }
-    ensures only { (number bit : ℕ) → bit < 64 → bit_at (slice_index entries.new.items number) bit ≡ 0
-        → (bit_at (slice_index entries.old.items number) bit ≡ 0) ⊎ IsPassOf fold literal.now bucket number bit }
-{
-    let last = PLACES.min(literal.len().saturating_sub(1));
+    let last = PLACES.min(literal.len());
     for ahead in 0..last {
-        let_pair_through(entries, fold, literal, ahead, bucket);
+        let (first, count) = fitting(fold, literal, ahead);
+        clear(entries, first, count, 8 * ahead + bucket);
     }
 }
 
-/// Passes a literal at its two bytes that stand `ahead` bytes before its end.
-fn let_pair_through(entries: &mut Vec<u64>, fold: Fold, literal: &[u8], ahead: usize, bucket: usize)
-    requires room { vec_len entries.old ≡ ENTRIES }
-    requires near { ahead < 8 }
-    requires bucket { bucket < 8 }
-    requires long { 2 + ahead ≤ length literal.now }
-    ensures len { vec_len entries.new ≡ vec_len entries.old }
-    ensures pair { bit_at (slice_index entries.new.items (number_at fold literal.now (length literal.now - ahead))) (8 * ahead + bucket) ≡ 0 }
-    ensures kept { (number bit : ℕ) → bit < 64 → bit_at (slice_index entries.old.items number) bit ≡ 0 → bit_at (slice_index entries.new.items number) bit ≡ 0 }
-    ensures only { (number bit : ℕ) → bit < 64 → bit_at (slice_index entries.new.items number) bit ≡ 0
-        → (bit_at (slice_index entries.old.items number) bit ≡ 0) ⊎ IsPassOf fold literal.now bucket number bit }
+/// The first entry that a literal fits which ends `ahead` positions after the entry's bytes, and how many in a row it
+/// fits: the entry of two of its bytes, or those of its first byte after any other byte.
+fn fitting(fold: Fold, literal: &[u8], ahead: usize) -> (usize, usize)
+    requires { ahead < length literal.now }
+    ensures inside { result.0 + result.1 ≤ ENTRIES }
+    ensures fits { (number : ℕ) → FitsPair fold number literal.now ahead
+        ↔ ((result.0 ≤ number) × (number < result.0 + result.1)) }
 {
-    let key = suffix_key(fold, literal, literal.len() - ahead, 2);
-    clear(entries, (key >> 48) as usize, 8 * ahead + bucket);
-}
-
-/// Passes a literal at its first byte after any other byte. The entry at the position after its first byte is the last
-/// that covers its end.
-fn let_first_through(entries: &mut Vec<u64>, fold: Fold, literal: &[u8], bucket: usize)
-    requires some { 0 < length literal.now }
-    requires short { length literal.now ≤ 8 }
-    requires room { vec_len entries.old ≡ ENTRIES }
-    requires bucket { bucket < 8 }
-    ensures len { vec_len entries.new ≡ vec_len entries.old }
-    ensures first { (number : ℕ) → number < ENTRIES → number / 256 ≡ last_number_at fold literal.now 1 → bit_at (slice_index entries.new.items number) (8 * (length literal.now - 1) + bucket) ≡ 0 }
-    ensures kept { (number bit : ℕ) → bit < 64 → bit_at (slice_index entries.old.items number) bit ≡ 0 → bit_at (slice_index entries.new.items number) bit ≡ 0 }
-    ensures only { (number bit : ℕ) → bit < 64 → bit_at (slice_index entries.new.items number) bit ≡ 0
-        → (bit_at (slice_index entries.old.items number) bit ≡ 0) ⊎ IsPassOf fold literal.now bucket number bit }
-{
-    let bit = 8 * (literal.len() - 1) + bucket;
-    let first = (suffix_key(fold, literal, 1, 1) >> 56) as usize;
-    for other in 0..256 {
-        clear(entries, 256 * first + other, bit);
+    let end = literal.len() - ahead;
+    if end == 1 {
+        let first = suffix_key(fold, literal, 1, 1);
+        return (256 * (first >> 56) as usize, 256);
     }
+    let pair = suffix_key(fold, literal, end, 2);
+    ((pair >> 48) as usize, 1)
 }
 
-/// Clears a bit of an entry.
-fn clear(entries: &mut Vec<u64>, number: usize, bit: usize)
-    requires room { number < vec_len entries.old }
+/// Clears a bit of some entries in a row.
+fn clear(entries: &mut Vec<u64>, first: usize, count: usize, bit: usize)
+    requires room { first + count ≤ vec_len entries.old }
     requires bit { bit < 64 }
     ensures len { vec_len entries.new ≡ vec_len entries.old }
-    ensures cleared { bit_at (slice_index entries.new.items number) bit ≡ 0 }
-    ensures kept { (other place : ℕ) → place < 64 → bit_at (slice_index entries.old.items other) place ≡ 0 → bit_at (slice_index entries.new.items other) place ≡ 0 }
-    ensures only { (other place : ℕ) → place < 64 → bit_at (slice_index entries.new.items other) place ≡ 0
-        → (bit_at (slice_index entries.old.items other) place ≡ 0) ⊎ ((other ≡ number) × (place ≡ bit)) }
+    ensures cleared { AreCleared entries.old.items entries.new.items
+        (λ number other. ((first ≤ number) × (number < first + count)) × (other ≡ bit)) }
 {
-    entries[number] = without(entries[number], bit);
+    for number in first..first + count {
+        entries[number] = without(entries[number], bit);
+    }
+}
+
+/// Copies each entry from its two bytes without the bits of case, so that a probe can use the bytes as they stand.
+fn leave_case_out(entries: &mut Vec<u64>, case_bits: usize)
+    requires room { vec_len entries.old ≡ ENTRIES }
+    requires small { case_bits < ENTRIES }
+    ensures len { vec_len entries.new ≡ ENTRIES }
+    ensures alike { (number : ℕ) → number < ENTRIES → slice_index entries.new.items number ≡ slice_index entries.old.items (bit_or number case_bits) }
+{
+    if case_bits != 0 {
+        for number in 0..ENTRIES {
+            entries[number] = entries[number | case_bits];
+        }
+    }
 }

@@ -1,11 +1,11 @@
 //! Shift-or over buckets of literals, as in Hyperscan's FDR: the bytes before an end rule it out. Costs are in tenths
 //! of a nanosecond.
-ghost use Rattle.std.specs.Prelude.{◌≡◌, ℕ, ◌+◌, ◌-◌, ◌*◌, ◌<◌, ◌≤◌, ◌⊎◌, IfOk, IfSome, MatchOption, length, max, slice_index, false};
+ghost use Rattle.std.specs.Prelude.{◌≡◌, ℕ, ◌+◌, ◌-◌, ◌*◌, ◌<◌, ◌≤◌, IfOk, IfSome, length, slice_index, false};
 ghost use Rattle.std.specs.Option.{IfNone};
 ghost use Rattle.shift_search.specs.Blocks.{AreNoted};
-ghost use Rattle.lit_base.specs.NextEnds.{Finds, IsFirstFound, NoEndUpTo};
+ghost use Rattle.lit_base.specs.NextEnds.{Finds, NoEndUpTo};
 ghost use Rattle.shift_search.specs.ShiftOr.{AreEntriesOf, NoneOf, RulesOut, RulesOutWords};
-ghost use Rattle.shift_search.specs.Probes.{AreProbes, AreProbesAfter, IsVerified};
+ghost use Rattle.shift_search.specs.Probes.{AreProbes, AreProbesAfter, FindsVerified, IsPassed};
 ghost use Rattle.shift_search.specs.declared.blocks.TheConstants.{GROUP, GROUPS};
 ghost use Rattle.shift_search.specs.declared.shift_or.TheConstants.{FIRST};
 
@@ -37,14 +37,6 @@ enum Stride {
     Two,
 }
 
-/// A position up to which nothing ends, what the last probes rule out after it, and from where on blocks may be tried.
-#[derive(Clone, Copy)]
-struct Quiet {
-    at: usize,
-    carried: u64,
-    far: usize,
-}
-
 /// Shift-or over the buckets of a list.
 ///
 /// There is an entry for each pair of bytes, in either case if case is ignored. It says which ends the pair rules out:
@@ -68,7 +60,7 @@ pub struct ShiftOr {
 
 impl Model for ShiftOr {
     ghost use Rattle.std.specs.Prelude.{◌≡◌, ◌<◌, ◌≤◌, length, vec_capacity, vec_len};
-    ghost use Rattle.shift_search.specs.ShiftOr.{AreConfirmsOf, AreEntriesOf, Bucketing, RulesOutElse};
+    ghost use Rattle.shift_search.specs.ShiftOr.{AreConfirmsOf, AreEntriesOf, Bucketing};
     ghost use Rattle.shift_search.specs.declared.entries.TheConstants.{ENTRIES};
 
     ghost Value = { Bucketing };
@@ -78,8 +70,7 @@ impl Model for ShiftOr {
     ghost invariant = { λ s. (ENTRIES ≤ vec_capacity s.entries)
         × (0 < vec_len s.entries → AreEntriesOf s.index.value s.buckets.items s.entries.items)
         × (vec_len s.buckets ≡ length s.index.value.texts)
-        × AreConfirmsOf s.index.value s.buckets.items s.confirms
-        × (0 < vec_len s.entries → RulesOutElse s.index.value s.buckets.items s.entries.items) };
+        × AreConfirmsOf s.index.value s.buckets.items s.confirms };
 }
 
 impl ShiftOr {
@@ -165,31 +156,31 @@ impl ShiftOr {
         ensures { AreProbesAfter self.now text.now from result }
     {
         let start = from.max(FIRST);
+        let at = start - (PLACES - 1);
         let carried = if start > text.len() {
             0
         } else {
-            self.carried_to(text, start + 1)
+            self.carried_after(text, at)
         };
         Probes {
-            at: start - (PLACES - 1),
+            at,
             unruled: 0,
             carried,
         }
     }
 
-    /// What the probes at the eight positions before `at` rule out from `at` on. Nothing without entries.
-    fn carried_to(&self, text: &[u8], at: usize) -> u64
-        requires after { 12 ≤ at }
-        requires inside { at ≤ length text.now + 1 }
-        ensures { RulesOut self.now text.now at result }
+    /// What the probes at the eight positions from `at` on rule out after these. Nothing without entries.
+    fn carried_after(&self, text: &[u8], at: usize) -> u64
+        requires after { 2 ≤ at }
+        requires inside { at + 7 ≤ length text.now }
+        ensures { RulesOut self.now text.now (at + 8) result }
     {
         let Some(entries) = self.made_entries() else {
             return 0;
         };
-        let before = at - PLACES;
         match self.stride {
-            Stride::One => probes_from::<1>(entries, text, before).after,
-            Stride::Two => probes_from::<2>(entries, text, before).after,
+            Stride::One => probes_from::<1>(entries, text, at).after,
+            Stride::Two => probes_from::<2>(entries, text, at).after,
         }
     }
 
@@ -209,57 +200,52 @@ impl ShiftOr {
         ensures probes { IfSome result (λ found. AreProbesAfter self.now text.now found.0 probes.new) }
         ensures over { IfNone result (probes.new ≡ probes.old) }
     {
-        let Some(entries) = self.made_entries() else {
-            return self.next_without_entries(text, from, probes);
-        };
-        let false_positives = &mut tally.marked;
-        match self.stride {
-            Stride::One => self.next_by_step::<1>(entries, text, from, probes, false_positives),
-            Stride::Two => self.next_by_step::<2>(entries, text, from, probes, false_positives),
+        if let Some(found) = self.first_between(text, from, text.len().min(FIRST)) {
+            return Some(found);
         }
+        let found = self.next_after(text, from.max(FIRST), *probes, &mut tally.marked)?;
+        *probes = found.probes;
+        Some((found.end, found.first))
     }
 
-    /// As `next_by`, without entries, which rules out nothing.
-    #[inline(never)]
-    fn next_without_entries(
+    /// The first end after `start`, where `probes` is the state of a search. Counts as `next_by` does.
+    #[inline(always)]
+    fn next_after(
         &self,
         text: &[u8],
-        from: usize,
-        probes: &mut Probes,
-    ) -> Option<(usize, usize)>
-        ensures next { Finds self.now.literals text.now from (length text.now) result }
-        ensures probes { IfSome result (λ found. AreProbesAfter self.now text.now found.0 probes.new) }
-        ensures over { IfNone result (probes.new ≡ probes.old) }
+        start: usize,
+        probes: Probes,
+        false_positives: &mut usize,
+    ) -> Option<Verified>
+        requires first { FIRST ≤ start }
+        requires probes { AreProbes self.now text.now start probes }
+        ensures { FindsVerified self.now text.now start (length text.now) result }
     {
-        let found = self.first_between(text, from, text.len());
-        if let Some((end, _)) = found {
-            *probes = self.probes_after(text, end);
+        let Some(entries) = self.made_entries() else {
+            return self.next_unprobed(text, start);
+        };
+        match self.stride {
+            Stride::One => self.next_by_step::<1>(entries, text, start, probes, false_positives),
+            Stride::Two => self.next_by_step::<2>(entries, text, start, probes, false_positives),
         }
-        found
     }
 
-    /// As `next_by`, at stride `STEP`, by 32 positions a turn.
+    /// As `next_after`, at stride `STEP`, by 32 positions a turn.
     #[inline(always)]
     fn next_by_step<const STEP: usize>(
         &self,
         entries: &[u64],
         text: &[u8],
-        from: usize,
-        probes: &mut Probes,
+        start: usize,
+        probes: Probes,
         false_positives: &mut usize,
-    ) -> Option<(usize, usize)>
+    ) -> Option<Verified>
         requires entries { AreEntriesOf self.now.literals self.now.buckets entries.now }
-        requires probes { AreProbesAfter self.now text.now from probes.old }
-        ensures next { Finds self.now.literals text.now from (length text.now) result }
-        ensures probes { IfSome result (λ found. AreProbesAfter self.now text.now found.0 probes.new) }
-        ensures over { IfNone result (probes.new ≡ probes.old) }
+        requires probes { AreProbes self.now text.now start probes }
+        ensures { FindsVerified self.now text.now start (length text.now) result }
     {
-        if let Some(found) = self.end_in_prefix(text, from) {
+        if let Some(found) = self.end_left(text, probes, false_positives) {
             return Some(found);
-        }
-        if let Some(found) = self.end_left(text, *probes, false_positives) {
-            *probes = found.probes;
-            return Some((found.end, found.first));
         }
         // Single variables hold the state, and functions return new ones. Otherwise it is stored at each turn.
         let mut at = probes.at;
@@ -276,71 +262,50 @@ impl ShiftOr {
             if lacking(ruled) != 0 {
                 let carried = last_of(before);
                 if let Some(found) = self.verify_four(text, next, ruled, carried, false_positives) {
-                    *probes = found.probes;
-                    return Some((found.end, found.first));
+                    return Some(found);
                 }
-                let here = Quiet { at, carried, far };
-                let quiet = self.skip_if_open::<STEP>(opened, entries, text, here, false_positives);
-                at = quiet.at;
-                before = last_alone(quiet.carried);
-                far = quiet.far;
+                if may_skip(at, far, opened) {
+                    let (passed, after) = self.skip_blocks::<STEP>(
+                        entries,
+                        text,
+                        start,
+                        at,
+                        carried,
+                        false_positives,
+                    );
+                    at = passed;
+                    before = last_alone(after);
+                    // If an end stopped the blocks, the search finds it before it tries blocks again.
+                    far = at.saturating_add(NEAR);
+                }
                 opened = at;
             }
         }
-        let rest = Probes {
-            at,
-            unruled: 0,
-            carried: last_of(before),
-        };
-        self.next_by_eights::<STEP>(entries, text, from, rest, probes, false_positives)
+        self.next_by_eights::<STEP>(entries, text, start, at, last_of(before), false_positives)
     }
 
-    /// Continues as `skip_blocks` does, if blocks may be tried here and the last group with an end that was not ruled
-    /// out is near.
-    #[inline(always)]
-    fn skip_if_open<const STEP: usize>(
-        &self,
-        opened: usize,
-        entries: &[u64],
-        text: &[u8],
-        here: Quiet,
-        false_positives: &mut usize,
-    ) -> Quiet
-        requires entries { AreEntriesOf self.now.literals self.now.buckets entries.now }
-        requires carried { RulesOut self.now text.now (here.at + 8) here.carried }
-        ensures after { here.at ≤ result.at }
-        ensures within { here.at ≡ result.at ⊎ (result.at + 7 ≤ length text.now) }
-        ensures none { NoEndUpTo self.now.literals text.now (here.at + 7) (result.at + 7) }
-        ensures carried { RulesOut self.now text.now (result.at + 8) result.carried }
-    {
-        if here.at < here.far || here.at.saturating_sub(opened) >= NEAR {
-            return here;
-        }
-        self.skip_blocks::<STEP>(entries, text, here.at, here.carried, false_positives)
-    }
-
-    /// Continues block by block while nothing ends in a block and some groups are noted. Nothing ends up to the start.
+    /// Continues after probes that left no end, block by block while nothing ends in a block and some groups are noted.
+    /// Returns the last position, and what the last probes rule out after it.
     #[inline(never)]
     fn skip_blocks<const STEP: usize>(
         &self,
         entries: &[u64],
         text: &[u8],
+        start: usize,
         from: usize,
-        carried: u64,
+        after: u64,
         false_positives: &mut usize,
-    ) -> Quiet
+    ) -> (usize, u64)
         requires entries { AreEntriesOf self.now.literals self.now.buckets entries.now }
-        requires carried { RulesOut self.now text.now (from + 8) carried }
-        ensures after { from ≤ result.at }
-        ensures within { from ≡ result.at ⊎ (result.at + 7 ≤ length text.now) }
-        ensures none { NoEndUpTo self.now.literals text.now (from + 7) (result.at + 7) }
-        ensures carried { RulesOut self.now text.now (result.at + 8) result.carried }
+        requires passed { IsPassed self.now text.now start from after }
+        ensures after { from ≤ result.0 }
+        ensures passed { IsPassed self.now text.now start result.0 result.1 }
     {
         let mut words = [0u64; 4 * GROUPS];
         let mut groups = [0usize; GROUPS];
         let mut numbers = [0usize; 4 * GROUPS];
         let mut at = from;
-        let mut before = last_alone(carried);
+        let mut before = last_alone(after);
         let last = text.len().saturating_sub(GROUP * GROUPS + (PLACES - 1));
         let mut is_open = true;
         'quiet: while is_open && at < last {
@@ -356,12 +321,7 @@ impl ShiftOr {
             at += GROUP * GROUPS;
             is_open = count != 0;
         }
-        Quiet {
-            at,
-            carried: last_of(before),
-            // If an end stopped the blocks, the search finds it before it tries blocks again.
-            far: at.saturating_add(NEAR),
-        }
+        (at, last_of(before))
     }
 
     /// Whether a literal ends in a block, by the words that are noted. Adds the false positives, counted for each
@@ -397,29 +357,22 @@ impl ShiftOr {
         false
     }
 
-    /// As `next_by`, after probes that left no end, by eight positions a turn: the last positions of a text.
+    /// As `next_after`, after probes that left no end, by eight positions a turn: the last positions of a text.
     #[inline(never)]
     fn next_by_eights<const STEP: usize>(
         &self,
         entries: &[u64],
         text: &[u8],
+        start: usize,
         from: usize,
-        rest: Probes,
-        probes: &mut Probes,
+        after: u64,
         false_positives: &mut usize,
-    ) -> Option<(usize, usize)>
+    ) -> Option<Verified>
         requires entries { AreEntriesOf self.now.literals self.now.buckets entries.now }
-        requires some { 8 ≤ rest.at }
-        requires near { max from FIRST ≤ rest.at + 7 }
-        requires within { rest.at + 7 ≤ max (max from FIRST) (length text.now) }
-        requires none { NoEndUpTo self.now.literals text.now from (rest.at + 7) }
-        requires carried { RulesOut self.now text.now (rest.at + 8) rest.carried }
-        ensures next { Finds self.now.literals text.now from (length text.now) result }
-        ensures probes { IfSome result (λ found. AreProbesAfter self.now text.now found.0 probes.new) }
-        ensures over { IfNone result (probes.new ≡ probes.old) }
+        requires passed { IsPassed self.now text.now start from after }
+        ensures { FindsVerified self.now text.now start (length text.now) result }
     {
-        let mut at = rest.at;
-        let mut carried = rest.carried;
+        let (mut at, mut carried) = (from, after);
         let last = text.len().saturating_sub(2 * PLACES - 1);
         'eights: while at <= last {
             at += PLACES;
@@ -432,28 +385,24 @@ impl ShiftOr {
                 carried,
             };
             if let Some(found) = self.end_left(text, left_here, false_positives) {
-                *probes = found.probes;
-                return Some((found.end, found.first));
+                return Some(found);
             }
         }
-        let found = self.first_between(text, at + (PLACES - 1), text.len());
-        if let Some((end, _)) = found {
-            *probes = self.probes_after(text, end);
-        }
-        found
+        self.next_unprobed(text, at + (PLACES - 1))
     }
 
-    /// The first end after a position among those that are searched without probes.
-    #[inline(always)]
-    fn end_in_prefix(&self, text: &[u8], from: usize) -> Option<(usize, usize)>
-        ensures { MatchOption result
-            (NoEndUpTo self.now.literals text.now from (max from FIRST))
-            (λ found. (found.0 ≤ FIRST) × IsFirstFound self.now.literals text.now from found.0 found.1) }
+    /// As `next_after`, without probes.
+    #[inline(never)]
+    fn next_unprobed(&self, text: &[u8], from: usize) -> Option<Verified>
+        requires { FIRST ≤ from }
+        ensures { FindsVerified self.now text.now from (length text.now) result }
     {
-        if from >= FIRST {
-            return None;
-        }
-        self.first_between(text, from, text.len().min(FIRST))
+        let (end, first) = self.first_between(text, from, text.len())?;
+        Some(Verified {
+            end,
+            first,
+            probes: self.probes_after(text, end),
+        })
     }
 
     /// The first end that probes did not rule out and at which some literal ends, with the first such literal.
@@ -461,9 +410,8 @@ impl ShiftOr {
     fn end_left(&self, text: &[u8], probes: Probes, false_positives: &mut usize) -> Option<Verified>
         requires eight { 8 ≤ probes.at }
         requires inside { 0 < probes.unruled → probes.at + 7 ≤ length text.now }
-        ensures { (start : ℕ) → AreProbes self.now text.now start probes → MatchOption result
-            (NoEndUpTo self.now.literals text.now start (probes.at + 7))
-            (IsVerified self.now text.now start) }
+        ensures { (start : ℕ) → AreProbes self.now text.now start probes
+            → FindsVerified self.now text.now start (probes.at + 7) result }
     {
         if probes.unruled == 0 {
             return None;
@@ -476,9 +424,8 @@ impl ShiftOr {
     fn verify(&self, text: &[u8], probes: Probes, false_positives: &mut usize) -> Option<Verified>
         requires eight { 8 ≤ probes.at }
         requires inside { probes.at + 7 ≤ length text.now }
-        ensures { (start : ℕ) → AreProbes self.now text.now start probes → MatchOption result
-            (NoEndUpTo self.now.literals text.now start (probes.at + 7))
-            (IsVerified self.now text.now start) }
+        ensures { (start : ℕ) → AreProbes self.now text.now start probes
+            → FindsVerified self.now text.now start (probes.at + 7) result }
     {
         self.first_verified(text, probes, false_positives)
     }
@@ -494,9 +441,8 @@ impl ShiftOr {
     ) -> Option<Verified>
         requires eight { 8 ≤ probes.at }
         requires inside { probes.at + 7 ≤ length text.now }
-        ensures { (start : ℕ) → AreProbes self.now text.now start probes → MatchOption result
-            (NoEndUpTo self.now.literals text.now start (probes.at + 7))
-            (IsVerified self.now text.now start) }
+        ensures { (start : ℕ) → AreProbes self.now text.now start probes
+            → FindsVerified self.now text.now start (probes.at + 7) result }
     {
         let mut unruled = probes.unruled;
         'ends: while unruled != 0 {
@@ -533,19 +479,18 @@ impl ShiftOr {
         requires inside { at + 31 ≤ length text.now }
         requires ruled { RulesOutWords self.now text.now at ruled }
         requires after { RulesOut self.now text.now (at + 32) after }
-        ensures { (start : ℕ) → start < at → NoEndUpTo self.now.literals text.now start (at - 1) → MatchOption result
-            (NoEndUpTo self.now.literals text.now start (at + 31))
-            (IsVerified self.now text.now start) }
+        ensures { (start : ℕ) → start < at → NoEndUpTo self.now.literals text.now start (at - 1)
+            → FindsVerified self.now text.now start (at + 31) result }
     {
-        let [first, second, third, fourth] = ruled.to_array();
-        let words = [first, second, third, fourth, after];
+        let words = ruled.to_array();
+        let later = [words[1], words[2], words[3], after];
         let mut unseen = lacking(ruled);
         'words: while unseen != 0 {
             let (word, others) = split_lowest(unseen);
             let probes = Probes {
                 at: at + PLACES * word,
                 unruled: !words[word],
-                carried: words[word + 1],
+                carried: later[word],
             };
             if let Some(found) = self.first_verified(text, probes, false_positives) {
                 return Some(found);
@@ -569,6 +514,7 @@ impl ShiftOr {
     }
 
     /// The first end after `from` and up to `last`, with the first literal that ends there, without probes.
+    #[inline]
     fn first_between(&self, text: &[u8], from: usize, last: usize) -> Option<(usize, usize)>
         requires { last ≤ length text.now }
         ensures first { Finds self.now.literals text.now from last result }
@@ -581,4 +527,10 @@ impl ShiftOr {
         }
         None
     }
+}
+
+/// Whether a search tries blocks: it has gone far, and the last group with an end that was not ruled out is near.
+#[inline(always)]
+fn may_skip(at: usize, far: usize, opened: usize) -> bool {
+    at >= far && at.saturating_sub(opened) < NEAR
 }

@@ -35,26 +35,22 @@ loop-group-preserved g c =
           let here : ℕ = c.args.at + 32 * group in
           let old = before.block b are first in
           let probes = c.four_probes-now.ensures b are in
-          let rules = c.with_those_before-ruled.ensures b text here probes old.1 in
+          let rules = c.with_those_before-ruled.ensures b text here probes old.after in
           let known : (more ≡ 1) ⊎ NoEndUpTo b.literals text (here - 1) (here + 31) = elim counted.1.0 [
             | inl one ↦ inl one
             | inr gone ↦ inr (none_of_group b text here four (omega (arith, c.requires.eight)) rules (λ i below. c.lacking.ensures.full i below (ap (λ m. bit_at m i) gone ∙ bit_at-zero i)))
           ] in
+          let after : ℕ = slice_index c.four_probes-now.result.after 3 in
           let next : here + 8 + 8 * 3 ≡ c.args.at + 32 * (group + 1) = omega arith in
-          let made : IsBlock b text c.args.at (group + 1) (put_chunk (4 * group) c.loop-group.words four) (slice_set c.loop-group.groups count group) (count + more) =
-          one_more b text c.args.at group count more c.loop-group.words four c.loop-group.groups (omega (arith, c.with_those_before-ruled.auto)) (omega (arith, before.words, c.loop-group-test.true)) (omega (arith, before.few, before.groups, c.loop-group-test.true)) upto rules known old.0 in (
-            subst (λ w. IsBlock b text c.args.at (group + 1) w (slice_set c.loop-group.groups count group) c.if-lacking-eq0.count) (sym c.store_words.ensures)
-                (subst (λ n. IsBlock b text c.args.at (group + 1) (put_chunk (4 * group) c.loop-group.words four) (slice_set c.loop-group.groups count group) n) counted.0 made),
-            subst (λ p. RulesOut b text p (slice_index c.four_probes-now.result.after 3)) next (probes.after 3 (omega arith)),
-          );
+          let groups = slice_set c.loop-group.groups count group in
+          let made : IsBlock b text c.args.at (group + 1) (put_chunk (4 * group) c.loop-group.words four) groups (count + more) after =
+          one_more b text c.args.at group count more c.loop-group.words four c.loop-group.groups _ after (omega (arith, c.with_those_before-ruled.auto)) (omega (arith, before.words, c.loop-group-test.true)) (omega (arith, before.few, before.groups, c.loop-group-test.true)) upto rules known
+          (subst (λ p. RulesOut b text p after) next (probes.after 3 (omega arith))) old in
+          subst (λ w. IsBlock b text c.args.at (group + 1) w groups c.if-lacking-eq0.count after) (sym c.store_words.ensures)
+          (subst (λ n. IsBlock b text c.args.at (group + 1) (put_chunk (4 * group) c.loop-group.words four) groups n after) counted.0 made);
     }
 
 pub returns-clause-block : goal.returns-clause-block
 returns-clause-block g c = λ b are first.
     let last : c.loop-group.group ≡ GROUPS = omega (arith, c.loop-group-test.false, c.loop-group.auto.group-end) in
-    subst (λ n. IsBlock b c.args.text.now c.args.at n c.loop-group.words c.loop-group.groups c.loop-group.count) last (c.loop-group.invariant.block b are first).0
-
-pub returns-clause-after : goal.returns-clause-after
-returns-clause-after g c = λ b are first.
-    let last : c.args.at + 32 * c.loop-group.group ≡ c.args.at + 1024 = omega (arith, c.loop-group-test.false, c.loop-group.auto.group-end) in
-    subst (λ p. RulesOut b c.args.text.now p (slice_index c.loop-group.after 3)) last (c.loop-group.invariant.block b are first).1
+    subst (λ n. IsBlock b c.args.text.now c.args.at n c.loop-group.words c.loop-group.groups c.loop-group.count (slice_index c.loop-group.after 3)) last (c.loop-group.invariant.block b are first)

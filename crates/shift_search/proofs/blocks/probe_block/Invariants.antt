@@ -1,4 +1,4 @@
-use Rattle.std.proofs.Common.{◌≡◌, ◌+◌, ◌*◌, ◌≤◌, length, slice_index}
+use Rattle.std.proofs.Common.{◌≡◌, ◌*◌, ◌≤◌, length, slice_index}
 use Rattle.shift_search.specs.Blocks.{IsBlock}
 use Rattle.shift_search.specs.ShiftOr.{AreEntriesOf, Bucketing, RulesOut}
 use Rattle.shift_search.specs.declared.blocks.TheConstants.{GROUPS}
@@ -11,5 +11,5 @@ invariant-loop-group g l = record {
   groups : length l.groups ≡ GROUPS;
   few : l.count ≤ l.group;
   block : (b : Bucketing) → AreEntriesOf b.literals b.buckets l.entries → RulesOut b l.text l.at (slice_index l.fn.before 3)
-      → IsBlock b l.text l.at l.group l.words l.groups l.count × RulesOut b l.text (l.at + 32 * l.group) (slice_index l.after 3);
+      → IsBlock b l.text l.at l.group l.words l.groups l.count (slice_index l.after 3);
 }

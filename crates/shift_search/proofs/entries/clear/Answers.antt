@@ -1,26 +1,27 @@
--- The bit of the entry is cleared, and no other is changed.
-use Rattle.std.proofs.Common.{◌≡◌, ◌<◌, length, set, slice_index, inl, inr, sym, ap, ◌∙◌, arith, get_or-set_other, get_or-set_same}
-use Rattle.std.specs.Int.{bit_at}
-use Rattle.std.proofs.lemmas.Bool.{cases_eq}
-use Rattle.std.proofs.lemmas.List.{get_or_read}
+-- Each entry loses the bit alone.
+use Rattle.std.proofs.Common.{◌<◌, length, refl, sym, arith}
+use Rattle.std.proofs.lemmas.List.{get_or_read, length-set}
+use Rattle.shift_search.proofs.EntryLemmas.{entry_cleared, more_cleared, more_entries, none_cleared, same_cleared}
 use Rattle.shift_search.proofs.entries.clear.Goals as goal
 
-pub returns-clause-cleared : goal.returns-clause-cleared
-returns-clause-cleared c =
-    ap (λ e. bit_at e c.args.bit) (get_or-set_same c.args.entries.now.items c.args.number c.without.result 0 (omega (arith, c.requires.room))) ∙ c.without.ensures.cleared
+pub loop-number-init : goal.loop-number-init
+loop-number-init c = record { len = refl; cleared = λ number other small. none_cleared (λ p. absurd (omega (arith, p.0.0, p.0.1))) }
 
-pub returns-clause-only : goal.returns-clause-only
-returns-clause-only c = λ other place small zero.
-    let items = c.args.entries.now.items in
-    let number = c.args.number in
-    let room : number < length items = omega (arith, c.requires.room) in
-    elim (cases_eq other number) [
-      | inr apart ↦ inl (ap (λ e. bit_at e place) (sym (get_or-set_other items number other c.without.result 0 apart)) ∙ zero)
-      | inl here ↦
-          let written : bit_at c.without.result place ≡ 0 =
-          ap (λ e. bit_at e place) (sym (get_or-set_same items number c.without.result 0 room)) ∙ ap (λ n. bit_at (slice_index (set items number c.without.result) n) place) (sym here) ∙ zero in
-          elim (c.without.ensures.only place small written) [
-            | inl old ↦ inl (ap (λ n. bit_at (slice_index items n) place) here ∙ ap (λ e. bit_at e place) (sym (get_or_read items number c.index.result.now room c.index.ensures 0)) ∙ old)
-            | inr same ↦ inr (here, same)
-          ]
-    ]
+pub loop-number-preserved : goal.loop-number-preserved
+loop-number-preserved c =
+    let items = c.loop-number.entries.items in
+    let number = c.loop-number.number in
+    let before = c.loop-number.invariant in
+    let room : number < length items = omega (arith, c.requires.room, before.len, c.loop-number-test.true) in
+    record {
+      len = omega (arith, length-set items number c.without.result, before.len);
+      cleared = λ other place small. more_cleared (before.cleared other place small)
+          (entry_cleared items number c.index.result.now c.without.result c.args.bit room (sym (get_or_read items number c.index.result.now room c.index.ensures 0)) c.without.ensures other place small)
+          (more_entries c.args.first number other place c.args.bit c.loop-number.auto.number);
+    }
+
+pub returns-clause-cleared : goal.returns-clause-cleared
+returns-clause-cleared c = λ number other small. same_cleared (c.loop-number.invariant.cleared number other small) (
+  λ p. ((p.0.0, omega (arith, p.0.1, c.loop-number.auto.number-end)), p.1),
+  λ p. ((p.0.0, omega (arith, p.0.1, c.loop-number-test.false)), p.1),
+)

@@ -1,18 +1,14 @@
--- One bit is cleared, and none is set.
-use Rattle.std.proofs.Common.{inl, inr, sym, ◌∙◌, w64}
+-- One bit is cleared, and the others stay.
+use Rattle.std.proofs.Common.{inl, inr, sym, ap, ◌∙◌, w64}
+use Rattle.std.specs.Int.{bit_at}
 use Rattle.std.proofs.lemmas.Bool.{cases_eq}
 use Rattle.std.proofs.lemmas.Nat.Bits.{bit_at_clear_other, bit_at_clear_same}
-use Rattle.shift_search.proofs.ShiftOrLemmas.{and_zero}
 use Rattle.shift_search.proofs.entries.without.Goals as goal
 
-pub returns-clause-cleared : goal.returns-clause-cleared
-returns-clause-cleared c = bit_at_clear_same w64 c.args.entry c.args.bit c.requires
-
-pub returns-clause-kept : goal.returns-clause-kept
-returns-clause-kept c = λ other small zero. and_zero c.args.entry _ other zero
-
-pub returns-clause-only : goal.returns-clause-only
-returns-clause-only c = λ other small zero. elim (cases_eq other c.args.bit) [
-  | inl same ↦ inr same
-  | inr apart ↦ inl (sym (bit_at_clear_other w64 c.args.entry c.args.bit c.requires other small apart) ∙ zero)
+pub returns : goal.returns
+returns c = λ other small. elim (cases_eq other c.args.bit) [
+  | inl same ↦ (λ _. inr same, λ _. ap (bit_at _) same ∙ bit_at_clear_same w64 c.args.entry c.args.bit c.requires)
+  | inr apart ↦
+      let kept = bit_at_clear_other w64 c.args.entry c.args.bit c.requires other small apart in
+      (λ zero. inl (sym kept ∙ zero), λ e. elim e [ inl zero ↦ kept ∙ zero | inr same ↦ absurd (apart same) ])
 ]

@@ -1,20 +1,23 @@
--- A bit is cleared only at a position that the literal does not reach back from.
-use Rattle.std.proofs.Common.{◌+◌, ◌*◌, ◌<◌, inl, inr, arith, below_more}
-use Rattle.std.proofs.lemmas.Bool.{leb-true, le-leb}
+-- Each literal clears its own bits alone.
+use Rattle.std.proofs.Common.{◌≡◌, [], length, subst, arith}
+use Rattle.std.proofs.lemmas.List.{get_or_read}
+use Rattle.lit_base.specs.Literals.{literal_at}
+use Rattle.shift_search.specs.ShiftOr.{IsCleared, IsPass, IsShort}
+use Rattle.shift_search.proofs.EntryLemmas.{more_cleared, more_literals, none_cleared}
 use Rattle.shift_search.proofs.entries.without_short.Goals as goal
 
-pub loop-ahead-preserved : goal.loop-ahead-preserved
-loop-ahead-preserved c =
-    let before = c.loop-ahead.invariant in
-    let near : c.loop-ahead.ahead < 8 = omega (arith, c.loop-ahead-test.true) in
-    let more = c.without_if-found.ensures in
-    record {
-      short = below_more _ _
-          (λ other sooner short. more.kept (8 * other + c.args.bucket) (omega (arith, sooner, near, c.requires)) (before.short other sooner short))
-          (λ short. more.cleared (le-leb c.args.len c.loop-ahead.ahead short));
-      kept = λ bit small zero. more.kept bit small (before.kept bit small zero);
-      only = λ bit small zero. elim (more.only bit small zero) [
-        | inl old ↦ before.only bit small old
-        | inr hit ↦ inr (record { ahead = c.loop-ahead.ahead; near = near; its = hit.1; past = leb-true c.args.len c.loop-ahead.ahead hit.0 })
-      ];
-    }
+pub loop-place-init : goal.loop-place-init
+loop-place-init c = λ bit small. none_cleared (λ is. absurd (omega (arith, is.within)))
+
+pub loop-place-preserved : goal.loop-place-preserved
+loop-place-preserved c = λ bit small.
+    let l = c.args.list.now in
+    let place = c.loop-place.place in
+    let here : c.get.result.now ≡ literal_at l place = get_or_read l.texts place c.get.result.now (omega (arith, c.loop-place-test.true)) c.get.ensures.value [] in
+    more_cleared (c.loop-place.invariant bit small) (c.without_ends-found.ensures bit small)
+    (more_literals l c.args.buckets.now.items IsShort place bit c.bucket_of.result c.get.result.now here c.bucket_of.ensures)
+
+pub returns : goal.returns
+returns c =
+    let all : c.loop-place.place ≡ length c.args.list.now.texts = omega (arith, c.loop-place-test.false, c.loop-place.auto.place-end, c.len-place-end.ensures.value) in
+    subst (λ count. IsCleared c.args.entry c.loop-place.found (IsPass c.args.list.now c.args.buckets.now.items IsShort count)) all c.loop-place.invariant

@@ -18,7 +18,7 @@ loop-slot-preserved c = λ slot below. elim (cases_lt slot c.loop-slot.slot) [
       let word : ℕ = slice_index c.args.numbers.now c.loop-slot.slot in
       let at : ℕ = c.args.at + 8 * word in
       let inside : word < 128 = c.requires.noted.inside c.loop-slot.slot c.loop-slot-test.true in
-      let probes = probes_here b text (at - 1) (at - 1) at (slice_index c.args.words.now word) 0 (omega arith) (omega (arith, c.requires.eight)) (omega (arith, c.requires.eight)) (omega (arith, c.requires.inside, inside))
+      let probes = probes_here b text (at - 1) at (slice_index c.args.words.now word) 0 (omega (arith, c.requires.eight)) (omega (arith, c.requires.eight)) (omega (arith, c.requires.inside, inside))
       (Fits-lt-pow (c.type_inv.words word)) (λ end after upto. absurd (omega (arith, after, upto))) (c.requires.noted.rules word inside) (λ place ahead near occurs. bit_at-zero (8 * ahead + bucket_at b.buckets place)) in
       let own : NoEndUpTo b.literals text (at - 1) (at + 7) = c.in_default.ensures (at - 1) probes in
       let here : c.loop-slot.slot ≡ slot = omega (arith, past, below) in

@@ -11,5 +11,4 @@ invariant_of-result c =
       λ some. absurd (omega (arith, some, c.in_ok-entries.ensures.len)),
       omega (arith, c.cut_runs.ensures, c.in_ok-buckets.ensures.len, c.len.ensures.value, ap (λ (l : Literals). length l.texts) same),
       subst (λ (l : Literals). AreConfirmsOf l c.cut_runs.new.buckets.items c.in_ok-confirms.confirms) same c.in_ok-confirms.ensures,
-      λ some. absurd (omega (arith, some, c.in_ok-entries.ensures.len)),
     )

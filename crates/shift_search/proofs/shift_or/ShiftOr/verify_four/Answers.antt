@@ -16,8 +16,8 @@ words-init c = record {
 pub bounds-words-word : goal.bounds-words-word
 bounds-words-word c = omega (arith, low_of_four c.words.unseen c.split_lowest-word.result.0 c.words.invariant.few c.split_lowest-word.ensures.set)
 
-pub bounds-words-word-in-words : goal.bounds-words-word-in-words
-bounds-words-word-in-words c = omega (arith, low_of_four c.words.unseen c.split_lowest-word.result.0 c.words.invariant.few c.split_lowest-word.ensures.set)
+pub bounds-later-word : goal.bounds-later-word
+bounds-later-word c = omega (arith, low_of_four c.words.unseen c.split_lowest-word.result.0 c.words.invariant.few c.split_lowest-word.ensures.set)
 
 pub first_verified-requires-clause-inside : goal.first_verified-requires-clause-inside
 first_verified-requires-clause-inside c = omega (arith, c.requires.inside, low_of_four c.words.unseen c.split_lowest-word.result.0 c.words.invariant.few c.split_lowest-word.ensures.set)
