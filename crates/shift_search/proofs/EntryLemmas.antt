@@ -5,10 +5,6 @@ use Rattle.std.proofs.lemmas.Bool.{cases_eq, cases_lt}
 use Rattle.lit_base.specs.Literals.{Literals, literal_at}
 use Rattle.shift_search.specs.ShiftOr.{IsCleared, IsPass, IsPassOf, bucket_at}
 
--- at first nothing is cleared
-pub none_cleared : {X P : Type 0} → (P → ⊥) → X ↔ (X ⊎ P)
-none_cleared none = (λ x. inl x, λ e. elim e [ inl x ↦ x | inr p ↦ absurd (none p) ])
-
 -- what was cleared before and what is cleared then together are what is cleared
 pub more_cleared : {X Y Z P Q R : Type 0} → X ↔ (Y ⊎ P) → Z ↔ (X ⊎ Q) → (P ⊎ Q) ↔ R → Z ↔ (Y ⊎ R)
 more_cleared before more both = (

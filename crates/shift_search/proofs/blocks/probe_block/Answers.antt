@@ -8,7 +8,6 @@ use Rattle.std.specs.Simd.Lanes.{put_chunk}
 use Rattle.shift_search.specs.Blocks.{IsBlock}
 use Rattle.lit_base.specs.NextEnds.{NoEndUpTo}
 use Rattle.shift_search.specs.ShiftOr.{RulesOut}
-use Rattle.shift_search.specs.declared.blocks.TheConstants.{GROUPS}
 use Rattle.shift_search.proofs.BlockLemmas.{one_more}
 use Rattle.shift_search.proofs.ShiftOrLemmas.{none_of_group}
 use Rattle.shift_search.proofs.blocks.probe_block.Goals as goal
@@ -49,8 +48,3 @@ loop-group-preserved g c =
           subst (λ w. IsBlock b text c.args.at (group + 1) w groups c.if-lacking-eq0.count after) (sym c.store_words.ensures)
           (subst (λ n. IsBlock b text c.args.at (group + 1) (put_chunk (4 * group) c.loop-group.words four) groups n after) counted.0 made);
     }
-
-pub returns-clause-block : goal.returns-clause-block
-returns-clause-block g c = λ b are first.
-    let last : c.loop-group.group ≡ GROUPS = omega (arith, c.loop-group-test.false, c.loop-group.auto.group-end) in
-    subst (λ n. IsBlock b c.args.text.now c.args.at n c.loop-group.words c.loop-group.groups c.loop-group.count (slice_index c.loop-group.after 3)) last (c.loop-group.invariant.block b are first)

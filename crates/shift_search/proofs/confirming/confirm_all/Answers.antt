@@ -1,8 +1,7 @@
 -- Each literal adds its bit alone.
-use Rattle.std.proofs.Common.{◌≡◌, ◌<◌, [], length, slice_index, ap, ◌∙◌, subst, arith}
+use Rattle.std.proofs.Common.{◌≡◌, ◌<◌, [], length, slice_index, ap, ◌∙◌, arith}
 use Rattle.std.proofs.lemmas.List.{get_or_read}
 use Rattle.lit_base.specs.Literals.{literal_at}
-use Rattle.list_index.specs.HashBits.{AreKeyBits}
 use Rattle.list_index.specs.Suffixes.{suffix_key}
 use Rattle.list_index.proofs.HashBitLemmas.{more_key_bits}
 use Rattle.shift_search.specs.ShiftOr.{bucket_at, bucket_key}
@@ -22,8 +21,3 @@ loop-place-preserved c =
     get_or_read widths c.bucket_of-bucket.result c.index.result.now (omega (arith, its, c.requires.widths.eight)) c.index.ensures 0 ∙ ap (slice_index widths) its in
     let key : c.suffix_key-key.result ≡ bucket_key l buckets widths place = c.suffix_key-key.ensures ∙ (λ i. suffix_key (c.fold.ensures i) (here i) (length (here i)) (width i)) in
     more_key_bits CONFIRM_BITS (bucket_key l buckets widths) (bucket_at buckets) place c.suffix_key-key.result c.bucket_of-bucket.result c.loop-place.table.items c.set_hash_bit.new.table.items c.loop-place.invariant key its (omega (arith, c.set_hash_bit.ensures.len)) c.set_hash_bit.ensures.set
-
-pub returns : goal.returns
-returns c =
-    let all : c.loop-place.place ≡ length c.args.list.now.texts = omega (arith, c.loop-place-test.false, c.loop-place.auto.place-end, c.len-place-end.ensures.value) in
-    subst (λ count. AreKeyBits CONFIRM_BITS (bucket_key c.args.list.now c.args.buckets.now.items c.args.widths.now.items) (bucket_at c.args.buckets.now.items) count c.loop-place.table.items) all c.loop-place.invariant

@@ -1,13 +1,10 @@
 -- Each literal is let through after the others.
-use Rattle.std.proofs.Common.{◌≡◌, [], length, subst, arith}
+use Rattle.std.proofs.Common.{◌≡◌, [], subst, arith}
 use Rattle.std.proofs.lemmas.List.{get_or_read}
 use Rattle.lit_base.specs.Literals.{literal_at}
-use Rattle.shift_search.specs.ShiftOr.{AreCleared, FitsPair, IsPass, IsPassOf}
-use Rattle.shift_search.proofs.EntryLemmas.{more_cleared, more_literals, none_cleared}
+use Rattle.shift_search.specs.ShiftOr.{AreCleared, FitsPair, IsPassOf}
+use Rattle.shift_search.proofs.EntryLemmas.{more_cleared, more_literals}
 use Rattle.shift_search.proofs.entries.let_all_through.Goals as goal
-
-pub loop-place-init : goal.loop-place-init
-loop-place-init c = record { len = c.requires.room; cleared = λ number bit small. none_cleared (λ is. absurd (omega (arith, is.within))) }
 
 pub loop-place-preserved : goal.loop-place-preserved
 loop-place-preserved c =
@@ -20,9 +17,3 @@ loop-place-preserved c =
       cleared = λ number bit small. more_cleared (c.loop-place.invariant.cleared number bit small) (cleared number bit small)
           (more_literals l c.args.buckets.now.items (FitsPair l.folding number) place bit c.bucket_of-bucket.result c.get.result.now here c.bucket_of-bucket.ensures);
     }
-
-pub returns-clause-cleared : goal.returns-clause-cleared
-returns-clause-cleared c =
-    let l = c.args.list.now in
-    let all : c.loop-place.place ≡ length l.texts = omega (arith, c.loop-place-test.false, c.loop-place.auto.place-end, c.len-place-end.ensures.value) in
-    subst (λ count. AreCleared c.args.entries.now.items c.loop-place.entries.items (λ number. IsPass l c.args.buckets.now.items (FitsPair l.folding number) count)) all c.loop-place.invariant.cleared

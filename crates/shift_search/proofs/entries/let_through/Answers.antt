@@ -1,11 +1,8 @@
 -- The literal passes at one position after another, and fits no entry after its first byte.
 use Rattle.std.proofs.Common.{◌/◌, ◌<◌, length, inl, inr, ◌∙◌, arith}
 use Rattle.shift_search.specs.ShiftOr.{FitsPair}
-use Rattle.shift_search.proofs.EntryLemmas.{more_cleared, more_ends, none_cleared, same_cleared}
+use Rattle.shift_search.proofs.EntryLemmas.{more_cleared, more_ends, same_cleared}
 use Rattle.shift_search.proofs.entries.let_through.Goals as goal
-
-pub loop-ahead-init : goal.loop-ahead-init
-loop-ahead-init c = record { len = c.requires.room; cleared = λ number bit small. none_cleared (λ p. absurd (omega (arith, p.1))) }
 
 pub loop-ahead-preserved : goal.loop-ahead-preserved
 loop-ahead-preserved c =

@@ -1,13 +1,10 @@
 -- Each literal clears its own bits alone.
-use Rattle.std.proofs.Common.{◌≡◌, [], length, subst, arith}
+use Rattle.std.proofs.Common.{◌≡◌, [], arith}
 use Rattle.std.proofs.lemmas.List.{get_or_read}
 use Rattle.lit_base.specs.Literals.{literal_at}
-use Rattle.shift_search.specs.ShiftOr.{IsCleared, IsPass, IsShort}
-use Rattle.shift_search.proofs.EntryLemmas.{more_cleared, more_literals, none_cleared}
+use Rattle.shift_search.specs.ShiftOr.{IsShort}
+use Rattle.shift_search.proofs.EntryLemmas.{more_cleared, more_literals}
 use Rattle.shift_search.proofs.entries.without_short.Goals as goal
-
-pub loop-place-init : goal.loop-place-init
-loop-place-init c = λ bit small. none_cleared (λ is. absurd (omega (arith, is.within)))
 
 pub loop-place-preserved : goal.loop-place-preserved
 loop-place-preserved c = λ bit small.
@@ -16,8 +13,3 @@ loop-place-preserved c = λ bit small.
     let here : c.get.result.now ≡ literal_at l place = get_or_read l.texts place c.get.result.now (omega (arith, c.loop-place-test.true)) c.get.ensures.value [] in
     more_cleared (c.loop-place.invariant bit small) (c.without_ends-found.ensures bit small)
     (more_literals l c.args.buckets.now.items IsShort place bit c.bucket_of.result c.get.result.now here c.bucket_of.ensures)
-
-pub returns : goal.returns
-returns c =
-    let all : c.loop-place.place ≡ length c.args.list.now.texts = omega (arith, c.loop-place-test.false, c.loop-place.auto.place-end, c.len-place-end.ensures.value) in
-    subst (λ count. IsCleared c.args.entry c.loop-place.found (IsPass c.args.list.now c.args.buckets.now.items IsShort count)) all c.loop-place.invariant

@@ -6,9 +6,6 @@ use Rattle.shift_search.proofs.ShiftOrLemmas.{lowest_verified, none_left, others
 use Rattle.shift_search.proofs.shift_or.ShiftOr.first_verified.Goals as goal
 use Rattle.shift_search.proofs.shift_or.ShiftOr.first_verified.Goals.{then-may_end+in_default, else-may_end}
 
-pub ends-init : goal.ends-init
-ends-init c = λ start are. are
-
 pub returns-in-Some : goal.returns-in-Some
 returns-in-Some c = λ start are.
     let probes = c.args.probes in
@@ -29,9 +26,6 @@ ends-preserved c = λ start are.
       | else-may_end w ↦ c.may_end.ensures w.if-may_end.false
     ] in
     others_left b text start probes.at c.ends.unruled probes.carried bit c.split_lowest-bit.result.1 c.requires.inside (c.ends.invariant start are) c.split_lowest-bit.ensures none
-
-pub ends-smaller : goal.ends-smaller
-ends-smaller c = c.split_lowest-bit.ensures.less
 
 pub returns : goal.returns
 returns c = λ start are. none_left c.args.self.now c.args.text.now start _ (c.ends.invariant start are) (omega (arith, c.ends-test.false))

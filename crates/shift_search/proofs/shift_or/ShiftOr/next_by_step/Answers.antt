@@ -27,9 +27,6 @@ turned b text start at before ruled passed are inside none = record {
   rules = after_turn b text at ruled are;
 }
 
-pub returns-in-Some : goal.returns-in-Some
-returns-in-Some g c = c.in-Some.ensures c.args.start c.requires.probes
-
 pub fours-init : goal.fours-init
 fours-init g c =
     let probes = c.requires.probes in
@@ -69,11 +66,7 @@ skip_blocks-passed-requires-clause-passed g c =
     turned b text start c.fours.at _ c.four_probes-now.result before (c.four_probes-now.ensures b c.requires.entries) (omega (arith, c.fours-test.true, c.saturating_sub-last_four.ensures))
     (λ end later within. c.in_default-verify_four.ensures start (omega (arith, before.near)) (λ other past upto. before.none other past (omega (arith, upto))) end later (omega (arith, within))))
 
--- with blocks after them
-pub fours-smaller-then-may_skip : goal.fours-smaller-then-may_skip
-fours-smaller-then-may_skip g c = omega (arith, c.skip_blocks-passed.ensures.after, c.fours-test.true, c.fours.invariant.some, c.saturating_sub-last_four.ensures)
-
--- or without
+-- and no blocks after them
 pub fours-preserved-else-may_skip : goal.fours-preserved-else-may_skip
 fours-preserved-else-may_skip g c =
     let b = c.args.self.now in

@@ -5,9 +5,6 @@ use Rattle.shift_search.specs.ShiftOr.{RulesOut}
 use Rattle.shift_search.proofs.BlockLemmas.{words_noted}
 use Rattle.shift_search.proofs.shift_or.ShiftOr.skip_blocks.Goals as goal
 
-pub note_words-count-requires-clause-inside : goal.note_words-count-requires-clause-inside
-note_words-count-requires-clause-inside g c = λ slot below. (c.probe_block-noted.ensures.block c.args.self.now c.requires.entries c.quiet.invariant.passed.rules).numbered slot below
-
 pub has_end-requires-clause-noted : goal.has_end-requires-clause-noted
 has_end-requires-clause-noted g c =
     let noted = c.note_words-count.ensures in
