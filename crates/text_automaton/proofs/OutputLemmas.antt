@@ -1,5 +1,5 @@
 -- The outputs of right tables: the literals that end at a position of a text.
-use Rattle.std.proofs.Common.{◌≡◌, ℕ, zero, suc, ◌+◌, ◌-◌, ◌<◌, ◌≤◌, ◌⊎◌, ◌++◌, List, [], ◌∷◌, Contains, Bool, true, All, inl, inr, length, get_or, slice_index, slice_range, drop, refl, sym, ap, ◌∙◌, subst, arith}
+use Rattle.std.proofs.Common.{◌≡◌, ℕ, zero, suc, ◌+◌, ◌-◌, ◌<◌, ◌≤◌, ◌++◌, List, [], ◌∷◌, Contains, Bool, All, inl, inr, length, get_or, slice_index, slice_range, drop, refl, sym, ap, ◌∙◌, subst, arith}
 use Rattle.std.proofs.lemmas.Bool.{cases_lt}
 use Rattle.std.proofs.lemmas.List.{ext_get_or, get_or-drop, get_or-map, get_or-take, length-drop, length-map, length-take}
 use Rattle.std.proofs.lemmas.List.Elements.{Contains-append_left, Contains-get_or, Contains-push, Contains-push_cases}
@@ -9,13 +9,10 @@ use Rattle.lit_base.specs.Literals.{Literals, lengths, literal_at}
 use Rattle.lit_base.specs.Occurrences.{HasEnd, Occurs}
 use Rattle.lit_base.specs.declared.fold.Fold.{Fold}
 use Rattle.lit_base.proofs.LengthLemmas.{length_at}
-use Rattle.text_automaton.specs.Automata.{AreEnding, IsReading, IsStateAt, Outputs, place_of, output_of}
+use Rattle.text_automaton.specs.Automata.{IsReading, IsStateAt, Outputs, place_of, output_of}
 use Rattle.text_automaton.specs.declared.reading.Reading.{Reading}
-use Rattle.text_automaton.specs.Prefixes.{Begins, IsNextShorter, IsPath, IsRead, Leads, read_of, state_after}
-use Rattle.text_automaton.specs.Stages.{is_made}
-use Rattle.text_automaton.specs.declared.automaton.Stage.{Stage}
-use Rattle.text_automaton.specs.declared.automaton.Stage.TheVariants.{Made, Refused, Unmade}
-use Rattle.text_automaton.specs.Tables.{AreRight, IsKnown, prefix_of, state_of, step, output_at}
+use Rattle.text_automaton.specs.Prefixes.{Begins, IsNextShorter, IsRead, Leads, read_of, state_after}
+use Rattle.text_automaton.specs.Tables.{AreRight, IsKnown, IsPath, prefix_of, state_of, step, output_at}
 use Rattle.text_automaton.specs.declared.tables.Tables.{Tables}
 use Rattle.text_automaton.proofs.PrefixLemmas.{begins_refl, begins_short, begins_trans, begins_whole, falls_to, goes_on, leads_none, leads_on, one_path, state_small}
 
@@ -23,6 +20,11 @@ use Rattle.text_automaton.proofs.PrefixLemmas.{begins_refl, begins_short, begins
 prefix_length : (text : List ℕ) (count : ℕ) → length (prefix_of text count) ≡ count
 prefix_length text zero = refl
 prefix_length text (suc count) = let rest = prefix_length text count in omega (arith, rest)
+
+-- and so many bytes are read
+read_length : (fold : Fold) (text : List ℕ) (from count : ℕ) → length (read_of fold text from count) ≡ count
+read_length fold text from zero = refl
+read_length fold text from (suc count) = let rest = read_length fold text from count in omega (arith, rest)
 
 module _ (t : Tables) (l : Literals) (right : AreRight t l) where
   -- a byte of a text, folded, is the byte of its class
@@ -42,25 +44,15 @@ module _ (t : Tables) (l : Literals) (right : AreRight t l) where
       let before = read_leads text small from count in
       let raw = slice_index text (from + count) in
       let byte = folded l.folding raw in
-      let to = goes_on t right.sized right.steps right.fails before.0 byte before.2.path (known_byte raw (small (from + count))) in (
+      let to = goes_on t (length l.texts) right.sized right.states before.0 byte before.2.path (known_byte raw (small (from + count))) in (
         to.0,
         to.1 ∙ ap (λ k. step t (state_of t before.0) k) (sym (right.classes raw (small (from + count))).1) ∙ ap (λ x. step t x (slice_index t.classes raw)) before.1,
         leads_on t byte (read_of l.folding text from count) before.0 to.0 before.2 to.2,
       )
 
-  -- a literal's prefixes are paths
-  literal_path : (place : ℕ) → place < length l.texts → (count : ℕ) → count ≤ length (literal_at l place) → IsPath t (prefix_of (literal_at l place) count)
-  literal_path place within zero few = tt
-  literal_path place within (suc count) few =
-      let longer = (right.spelled place within).prefixes count (omega (arith, few)) in
-      (literal_path place within count (omega (arith, few)), longer.0, longer.1)
-
   -- the whole literal
   abbrev whole : ℕ → List ℕ
   whole place = prefix_of (literal_at l place) (length (literal_at l place))
-
-  whole_path : (place : ℕ) → place < length l.texts → IsPath t (whole place)
-  whole_path place within = literal_path place within (length (literal_at l place)) (omega arith)
 
   -- the output of a path's state, given the output of the next shorter path: each direction
   abbrev Reports : List ℕ → Type 0
@@ -73,7 +65,7 @@ module _ (t : Tables) (l : Literals) (right : AreRight t l) where
 
     reports_none : Reports []
     reports_none place =
-        let none = (right.reporting 0 right.sized.some).first refl in (
+        let none = (right.states 0 right.sized.many.some).output.first refl in (
           λ inside. let out : Contains [] place = subst (λ xs. Contains xs place) none inside in absurd (omega (arith, out.1)),
           λ within begins. let short = begins_short (whole place) [] begins in absurd (omega (arith, short, prefix_length (literal_at l place) (length (literal_at l place)), some_bytes place within)),
         )
@@ -82,13 +74,13 @@ module _ (t : Tables) (l : Literals) (right : AreRight t l) where
     reports_more s f some path same falls positive reports place =
         let state = state_of t s in
         let own = slice_index t.owns.items state in
-        let reporting = right.reporting state (state_small t s right.sized path) in
+        let reporting = (right.states state (state_small t s right.sized path)).output in
         let others : output_at t (state_of t f) ≡ output_at t (slice_index t.fails.items state) = ap (output_at t) same in
         elim (reporting.others positive) [
           | inl has ↦
               let is : output_at t state ≡ output_at t (slice_index t.fails.items state) ++ own ∷ [] = has.1 in
               let there : state_of t (whole own) ≡ state = (right.spelled own has.0).end ∙ reporting.own has.0 in
-              let same_path : whole own ≡ s = one_path t (whole own) s (whole_path own has.0) path there in (
+              let same_path : whole own ≡ s = one_path t (whole own) s (right.spelled own has.0).path path there in (
                 λ inside. elim (Contains-push_cases (output_at t (slice_index t.fails.items state)) own place (subst (λ xs. Contains xs place) is inside)) [
                   | inl old ↦
                       let w = (reports place).0 (subst (λ xs. Contains xs place) (sym others) old) in
@@ -97,7 +89,7 @@ module _ (t : Tables) (l : Literals) (right : AreRight t l) where
                 ],
                 λ within begins. elim (cases_lt (length (whole place)) (length s)) [
                   | inl short ↦ subst (λ xs. Contains xs place) (sym is) (Contains-append_left (output_at t (slice_index t.fails.items state)) (own ∷ []) place
-                      (subst (λ xs. Contains xs place) others ((reports place).1 within (falls.longest (whole place) (whole_path place within) begins short))))
+                      (subst (λ xs. Contains xs place) others ((reports place).1 within (falls.longest (whole place) (right.spelled place within).path begins short))))
                   | inr long ↦
                       let all : whole place ≡ s = begins_whole (whole place) s begins long in
                       let ends : slice_index t.ends.items place ≡ state = sym (right.spelled place within).end ∙ ap (state_of t) all in
@@ -109,7 +101,7 @@ module _ (t : Tables) (l : Literals) (right : AreRight t l) where
               let is : output_at t state ≡ output_at t (state_of t f) = has.1 ∙ sym others in (
                 λ inside. let w = (reports place).0 (subst (λ xs. Contains xs place) is inside) in (w.0, begins_trans (whole place) f s w.1 falls.ends),
                 λ within begins. elim (cases_lt (length (whole place)) (length s)) [
-                  | inl short ↦ subst (λ xs. Contains xs place) (sym is) ((reports place).1 within (falls.longest (whole place) (whole_path place within) begins short))
+                  | inl short ↦ subst (λ xs. Contains xs place) (sym is) ((reports place).1 within (falls.longest (whole place) (right.spelled place within).path begins short))
                   | inr long ↦
                       let all : whole place ≡ s = begins_whole (whole place) s begins long in
                       let ends : slice_index t.ends.items place ≡ state = sym (right.spelled place within).end ∙ ap (state_of t) all in
@@ -124,43 +116,35 @@ module _ (t : Tables) (l : Literals) (right : AreRight t l) where
     reports_all n [] short path = reports_none
     reports_all zero (b ∷ s) short path = absurd (omega (arith, short))
     reports_all (suc n) (b ∷ s) short path =
-        let down = falls_to t right.sized right.steps right.fails (b ∷ s) (omega arith) path in
+        let down = falls_to t (length l.texts) right.sized right.states (b ∷ s) (omega arith) path in
         reports_more (b ∷ s) down.0 (omega arith) path down.1 down.2 path.2.1 (reports_all n down.0 (omega (arith, short, down.2.shorter)) down.2.path)
 
     -- the output of a path's state is the literals that end it
     pub reports : (s : List ℕ) → IsPath t s → Reports s
     reports s path = reports_all (length s) s (omega arith) path
 
--- the last bytes that were read, from a prefix that ends them
-bytes_of_begins : (fold : Fold) (literal text : List ℕ) (from : ℕ) (len count : ℕ) → Begins (prefix_of literal len) (read_of fold text from count)
-    → (len ≤ count) × ((i : ℕ) → i < len → slice_index literal i ≡ folded fold (slice_index text (from + (count - len) + i)))
-bytes_of_begins fold literal text from zero count begins = (omega arith, λ i low. absurd (omega (arith, low)))
-bytes_of_begins fold literal text from (suc len) zero begins = elim begins [ ]
-bytes_of_begins fold literal text from (suc len) (suc count) begins =
-    let rest = bytes_of_begins fold literal text from len count begins.1 in (
-      omega (arith, rest.0),
-      λ i low. elim (cases_lt i len) [
-        | inl sooner ↦
-            let same : from + (count - len) + i ≡ from + (suc count - suc len) + i = omega arith in
-            rest.1 i sooner ∙ ap (λ p. folded fold (slice_index text p)) same
-        | inr there ↦
-            let here : len ≡ i = omega (arith, low, there) in
-            let same : from + count ≡ from + (suc count - suc len) + i = omega (arith, here, rest.0) in
-            ap (slice_index literal) (sym here) ∙ begins.0 ∙ ap (λ p. folded fold (slice_index text p)) same
-      ],
-    )
+-- the last bytes that were read, from a position on, are those of a prefix that ends them
+bytes_of_begins : (fold : Fold) (literal text : List ℕ) (from low len count : ℕ) → from + count ≡ low + len → Begins (prefix_of literal len) (read_of fold text from count)
+    → (i : ℕ) → i < len → slice_index literal i ≡ folded fold (slice_index text (low + i))
+bytes_of_begins fold literal text from low zero count here begins i small = absurd (omega (arith, small))
+bytes_of_begins fold literal text from low (suc len) zero here begins i small = elim begins [ ]
+bytes_of_begins fold literal text from low (suc len) (suc count) here begins i small = elim (cases_lt i len) [
+  | inl sooner ↦ bytes_of_begins fold literal text from low len count (omega (arith, here)) begins.1 i sooner
+  | inr there ↦
+      let last : len ≡ i = omega (arith, small, there) in
+      let same : from + count ≡ low + i = omega (arith, here, last) in
+      ap (slice_index literal) (sym last) ∙ begins.0 ∙ ap (λ p. folded fold (slice_index text p)) same
+]
 
 -- and the other way round
-begins_of_bytes : (fold : Fold) (literal text : List ℕ) (from : ℕ) (len count : ℕ) → len ≤ count → ((i : ℕ) → i < len → slice_index literal i ≡ folded fold (slice_index text (from + (count - len) + i)))
+begins_of_bytes : (fold : Fold) (literal text : List ℕ) (from low len count : ℕ) → from + count ≡ low + len → from ≤ low → ((i : ℕ) → i < len → slice_index literal i ≡ folded fold (slice_index text (low + i)))
     → Begins (prefix_of literal len) (read_of fold text from count)
-begins_of_bytes fold literal text from zero count fits same = tt
-begins_of_bytes fold literal text from (suc len) zero fits same = absurd (omega (arith, fits))
-begins_of_bytes fold literal text from (suc len) (suc count) fits same =
-    let last : from + (suc count - suc len) + len ≡ from + count = omega (arith, fits) in (
+begins_of_bytes fold literal text from low zero count here begun same = tt
+begins_of_bytes fold literal text from low (suc len) zero here begun same = absurd (omega (arith, here, begun))
+begins_of_bytes fold literal text from low (suc len) (suc count) here begun same =
+    let last : low + len ≡ from + count = omega (arith, here) in (
       same len (omega arith) ∙ ap (λ p. folded fold (slice_index text p)) last,
-      begins_of_bytes fold literal text from len count (omega (arith, fits)) (λ i low.
-          let there : from + (suc count - suc len) + i ≡ from + (count - len) + i = omega arith in
-          same i (omega (arith, low)) ∙ ap (λ p. folded fold (slice_index text p)) there),
+      begins_of_bytes fold literal text from low len count (omega (arith, here)) begun (λ i small. same i (omega (arith, small))),
     )
 
 -- a byte of a folded part of a text
@@ -178,8 +162,8 @@ ends_of_begins : (l : Literals) (text : List ℕ) (from count place end : ℕ) �
 ends_of_begins l text from count place end here inside within begins =
     let literal = literal_at l place in
     let len = length literal in
-    let bytes = bytes_of_begins l.folding literal text from len count begins in
-    let begins_at : len ≤ end = omega (arith, bytes.0, here) in
+    let short = begins_short (prefix_of literal len) (read_of l.folding text from count) begins in
+    let begins_at : len ≤ end = omega (arith, short, prefix_length literal len, read_length l.folding text from count, here) in
     let long : length (folded_text l.folding (slice_range text (end - len) end)) ≡ len = folded_length l.folding text (end - len) end (omega arith) inside ∙ omega (arith, begins_at) in
     record {
       literal = literal;
@@ -188,71 +172,49 @@ ends_of_begins l text from count place end here inside within begins =
       ends = inside;
       bytes = ext_get_or 0 (folded_text l.folding (slice_range text (end - len) end)) literal long (λ i low.
           let small : i < len = omega (arith, low, long) in
-          let same : from + (count - len) + i ≡ end - len + i = omega (arith, here, bytes.0) in
           folded_at l.folding text (end - len) end i inside (omega (arith, small, begins_at))
-          ∙ ap (λ p. folded l.folding (slice_index text p)) (sym same) ∙ sym (bytes.1 i small));
+          ∙ sym (bytes_of_begins l.folding literal text from (end - len) len count (omega (arith, here, begins_at)) begins i small));
     }
 
-begins_of_ends : (l : Literals) (text : List ℕ) (from count place end : ℕ) → from + count ≡ end → (from ≡ 0) ⊎ (from + length (literal_at l place) ≤ end) → (o : Occurs l text place end)
+begins_of_ends : (l : Literals) (text : List ℕ) (from count place end : ℕ) → from + count ≡ end → from ≤ end - length (literal_at l place) → (o : Occurs l text place end)
     → Begins (prefix_of (literal_at l place) (length (literal_at l place))) (read_of l.folding text from count)
-begins_of_ends l text from count place end here prefix o =
+begins_of_ends l text from count place end here early o =
     let literal = literal_at l place in
     let len = length literal in
     let is : literal ≡ o.literal = get_or_from_slice_get l.texts place o.literal [] o.stands in
     let lens : len ≡ length o.literal = ap length is in
-    let fits : len ≤ count = elim prefix [
-      | inl none ↦ omega (arith, none, here, o.begins, lens)
-      | inr far ↦ omega (arith, far, here)
-    ] in
-    begins_of_bytes l.folding literal text from len count fits (λ i low.
-    let same : end - len + i ≡ from + (count - len) + i = omega (arith, here, fits) in
     let whole : folded_text l.folding (slice_range text (end - len) end) ≡ literal = ap (λ k. folded_text l.folding (slice_range text (end - k) end)) lens ∙ o.bytes ∙ sym is in
-    sym (ap (λ xs. get_or xs i 0) whole) ∙ folded_at l.folding text (end - len) end i o.ends (omega (arith, low, o.begins, lens))
-    ∙ ap (λ p. folded l.folding (slice_index text p)) same)
+    begins_of_bytes l.folding literal text from (end - len) len count (omega (arith, here, o.begins, lens)) early (λ i low.
+    sym (ap (λ xs. get_or xs i 0) whole) ∙ folded_at l.folding text (end - len) end i o.ends (omega (arith, low, o.begins, lens)))
 
--- the output of a position's state is the literals that end there
-pub output_there : (t : Tables) (l : Literals) (text : List ℕ) (longest end to : ℕ) → AreRight t l → All (λ x. 0 < length x) l.texts → All (λ len. len ≤ longest) (lengths l)
-    → ((i : ℕ) → slice_index text i < 256) → end ≤ length text → IsRead t text longest end to → AreEnding l text end (output_at t to)
-output_there t l text longest end to right nonempty fits small inside is =
-    let leads = read_leads t l right text small is.from is.count in
-    let same : state_of t leads.0 ≡ to = leads.1 ∙ sym is.state in
-    let report = reports t l right nonempty leads.0 leads.2.path in
-    record {
-      rising = (right.reporting to is.known).rising;
-      members = λ place. (
-        λ found.
-            let w = (report place).0 (subst (λ s. Contains (output_at t s) place) (sym same) found) in
-            ends_of_begins l text is.from is.count place end is.here inside w.0 (begins_trans (prefix_of (literal_at l place) (length (literal_at l place))) leads.0 (read_of l.folding text is.from is.count) w.1 leads.2.ends),
-        λ o.
-            let within = slice_get_within l.texts place o.literal o.stands in
-            let prefix : (is.from ≡ 0) ⊎ (is.from + length (literal_at l place) ≤ end) = elim is.prefix [
-              | inl none ↦ inl none
-              | inr far ↦ inr (omega (arith, far, fits place 0 (omega (arith, within, length-map l.texts (length {A = ℕ}))), length_at l.texts place 0 within))
-            ] in
-            subst (λ s. Contains (output_at t s) place) same ((report place).1 within
-            (leads.2.longest (prefix_of (literal_at l place) (length (literal_at l place))) (literal_path t l right place within (length (literal_at l place)) (omega arith))
-            (begins_of_ends l text is.from is.count place end is.here prefix o))),
-      );
-    }
-
--- it is the state of the position, where only the outputs of the tables are seen
+-- a state to which bytes before a position lead is the state of the position: its output is the literals that end there
 pub state_there : (t : Tables) (l : Literals) (text : List ℕ) (longest end to : ℕ) (made : Bool) → AreRight t l → All (λ x. 0 < length x) l.texts → All (λ len. len ≤ longest) (lengths l)
     → ((i : ℕ) → slice_index text i < 256) → end ≤ length text → IsRead t text longest end to
     → IsStateAt (record { literals = l; outputs = t.outputs.items; lows = t.lows.items; highs = t.highs.items; quiet = t.quiet; is_made = made }) text end to
 state_there t l text longest end to made right nonempty fits small inside is =
-    let reporting = right.reporting to is.known in
+    let leads = read_leads t l right text small is.from is.count in
+    let same : state_of t leads.0 ≡ to = leads.1 ∙ sym is.state in
+    let report = reports t l right nonempty leads.0 leads.2.path in
+    let output = (right.states to is.known).output in
     record {
-      known = omega (arith, is.known, right.sized.lows);
-      ending = output_there t l text longest end to right nonempty fits small inside is;
-      quiet = reporting.quiet;
-      reporting = reporting.reporting;
+      known = omega (arith, is.known, right.sized.many.lows);
+      ending = record {
+        rising = output.rising;
+        members = λ place. (
+          λ found.
+              let w = (report place).0 (subst (λ s. Contains (output_at t s) place) (sym same) found) in
+              ends_of_begins l text is.from is.count place end is.here inside w.0 (begins_trans (prefix_of (literal_at l place) (length (literal_at l place))) leads.0 (read_of l.folding text is.from is.count) w.1 leads.2.ends),
+          λ o.
+              let within = slice_get_within l.texts place o.literal o.stands in
+              let early : is.from ≤ end - length (literal_at l place) = omega (arith, is.early, fits place 0 (omega (arith, within, length-map l.texts (length {A = ℕ}))), length_at l.texts place 0 within) in
+              subst (λ s. Contains (output_at t s) place) same ((report place).1 within
+              (leads.2.longest (prefix_of (literal_at l place) (length (literal_at l place))) (right.spelled place within).path
+              (begins_of_ends l text is.from is.count place end is.here early o))),
+        );
+      };
+      quiet = output.quiet;
+      reporting = output.reporting;
     }
-
--- tables that are made are right
-pub stage_made : (stage : Stage) → is_made stage ≡ true → stage ≡ Made
-stage_made Unmade other = (cc)
-stage_made Refused other = (cc)
-stage_made Made is = refl
 
 -- at a position with a quiet state nothing ends
 no_end : (a : Outputs) (text : List ℕ) (end state : ℕ) → IsStateAt a text end state → state < a.quiet → ¬ HasEnd a.literals text end

@@ -1,8 +1,8 @@
 -- Prefixes of literals, and the states to which they lead. Prefixes and texts stand with their last byte first, so the end of a text begins it here.
 use Rattle.std.proofs.Common.{◌≡◌, ℕ, zero, suc, ◌+◌, ◌*◌, ◌<◌, ◌≤◌, List, [], ◌∷◌, inl, inr, length, slice_index, refl, sym, ap, ◌∙◌, subst, arith}
 use Rattle.std.proofs.lemmas.Bool.{cases_lt}
-use Rattle.text_automaton.specs.Prefixes.{Begins, IsNextShorter, IsPath, Leads}
-use Rattle.text_automaton.specs.Tables.{AreSized, IsChild, IsFail, IsKnown, IsStep, count_of, state_of, step}
+use Rattle.text_automaton.specs.Prefixes.{Begins, IsNextShorter, Leads}
+use Rattle.text_automaton.specs.Tables.{AreSized, IsChild, IsKnown, IsPath, IsState, count_of, state_of, step}
 use Rattle.text_automaton.specs.declared.tables.Tables.{Tables}
 use Rattle.text_automaton.specs.declared.tables.TheConstants.{CLASSES}
 
@@ -47,10 +47,10 @@ leads_none t = record { path = tt; ends = tt; longest = λ w path ends. ends }
 
 -- the state of a path is a state
 pub state_small : (t : Tables) (s : List ℕ) → AreSized t → IsPath t s → state_of t s < count_of t
-state_small t [] sized p = sized.some
+state_small t [] sized p = sized.many.some
 state_small t (b ∷ s) sized p =
     let before = state_small t s sized p.0 in
-    sized.stepped (CLASSES * state_of t s + slice_index t.classes b) (omega (arith, before, p.1.class, sized.rows))
+    sized.stepped (CLASSES * state_of t s + slice_index t.classes b) (omega (arith, before, p.1.class, sized.many.rows))
 
 -- the first state belongs to the empty path alone
 pub state_zero : (t : Tables) (s : List ℕ) → IsPath t s → state_of t s ≡ 0 → s ≡ []
@@ -67,8 +67,7 @@ one_path t (b ∷ s) (c ∷ w) p q same =
     let bytes : b ≡ c = sym (p.1.own p.2.0) ∙ ap (slice_index t.bytes) classes ∙ q.1.own q.2.0 in
     ap (λ x. x ∷ s) bytes ∙ ap (λ x. c ∷ x) (one_path t s w p.0 q.0 before)
 
-module _ (t : Tables) (sized : AreSized t) (steps : (state class : ℕ) → state < count_of t → class < CLASSES → IsStep t state class)
-    (fails : (state : ℕ) → 0 < state → state < count_of t → IsFail t state) where
+module _ (t : Tables) (count : ℕ) (sized : AreSized t) (states : (state : ℕ) → state < count_of t → IsState t count state) where
   -- where a byte leads from a path: to the longest path after it
   abbrev Goes : List ℕ → ℕ → Type 0
   Goes s b = (to : List ℕ) × (state_of t to ≡ step t (state_of t s) (slice_index t.classes b)) × Leads t (b ∷ s) to
@@ -116,7 +115,7 @@ module _ (t : Tables) (sized : AreSized t) (steps : (state class : ℕ) → stat
 
   -- where a byte leads, if the next shorter path is known and where the byte leads from it
   goes : (s : List ℕ) (b : ℕ) → IsPath t s → IsKnown t b → (0 < length s → (down : Falls s) × Goes down.0 b) → Goes s b
-  goes s b path known shorter = elim (steps (state_of t s) (slice_index t.classes b) (state_small t s sized path) known.class) [
+  goes s b path known shorter = elim ((states (state_of t s) (state_small t s sized path)).steps (slice_index t.classes b) known.class) [
     | inl child ↦ (b ∷ s, refl, record { path = (path, known, child); ends = begins_refl (b ∷ s); longest = λ w path ends. ends })
     | inr other ↦ elim other.1 [
       | inl first ↦
@@ -160,7 +159,7 @@ module _ (t : Tables) (sized : AreSized t) (steps : (state class : ℕ) → stat
       let child = path.2 in
       let parent : slice_index t.parents.items (state_of t (x ∷ s)) ≡ state_of t s = child.2 in
       let last : slice_index t.lasts.items (state_of t (x ∷ s)) ≡ slice_index t.classes x = child.3 in
-      elim (fails (state_of t (x ∷ s)) child.1 (state_small t (x ∷ s) sized path)) [
+      elim (states (state_of t (x ∷ s)) (state_small t (x ∷ s) sized path)).fail [
         | inl first ↦
             let none : s ≡ [] = state_zero t s path.0 (sym parent ∙ first.0) in
             ([], sym first.1, subst (λ y. IsNextShorter t (x ∷ y) []) (sym none) (falls_first x))
@@ -177,33 +176,21 @@ module _ (t : Tables) (sized : AreSized t) (steps : (state class : ℕ) → stat
       ]
 
   -- both, for paths of bounded length
-  abbrev Known : ℕ → Type 0
-  Known n = ((s : List ℕ) (b : ℕ) → length s ≤ n → IsPath t s → IsKnown t b → Goes s b) × ((s : List ℕ) → length s ≤ n → 0 < length s → IsPath t s → Falls s)
-
-  none_fall : (s : List ℕ) → length s ≤ 0 → 0 < length s → IsPath t s → Falls s
-  none_fall s none some path = absurd (omega (arith, none, some))
-
-  next_fall : (n : ℕ) → Known n → (s : List ℕ) → length s ≤ suc n → 0 < length s → IsPath t s → Falls s
-  next_fall n all [] short some path = absurd (omega (arith, some))
-  next_fall n all (x ∷ s) short some path = falls x s path (λ more.
-      let down = all.1 s (omega (arith, short)) more path.0 in
-      (down, all.0 down.0 x (omega (arith, short, down.2.shorter)) down.2.path path.1))
-
-  known : (n : ℕ) → Known n
-  known zero = (λ s b short path is. goes s b path is (λ some. absurd (omega (arith, short, some))), none_fall)
-  known (suc n) =
-      let all = known n in
-      let fall = next_fall n all in (
-        λ s b short path is. goes s b path is (λ some.
-            let down = fall s short some path in
-            (down, all.0 down.0 b (omega (arith, short, down.2.shorter)) down.2.path is)),
-        fall,
+  known : (n : ℕ) (s : List ℕ) → length s ≤ n → IsPath t s → (0 < length s → Falls s) × ((b : ℕ) → IsKnown t b → Goes s b)
+  known n [] short path = (λ some. absurd (omega (arith, some)), λ b is. goes [] b path is (λ some. absurd (omega (arith, some))))
+  known zero (x ∷ s) short path = absurd (omega (arith, short))
+  known (suc n) (x ∷ s) short path =
+      let fall : Falls (x ∷ s) = falls x s path (λ more.
+      let down = (known n s (omega (arith, short)) path.0).0 more in
+      (down, (known n down.0 (omega (arith, short, down.2.shorter)) down.2.path).1 x path.1)) in (
+        λ some. fall,
+        λ b is. goes (x ∷ s) b path is (λ some. (fall, (known n fall.0 (omega (arith, short, fall.2.shorter)) fall.2.path).1 b is)),
       )
 
   -- where a byte leads from a path
   pub goes_on : (s : List ℕ) (b : ℕ) → IsPath t s → IsKnown t b → (to : List ℕ) × (state_of t to ≡ step t (state_of t s) (slice_index t.classes b)) × Leads t (b ∷ s) to
-  goes_on s b path is = (known (length s)).0 s b (omega arith) path is
+  goes_on s b path is = (known (length s) s (omega arith) path).1 b is
 
   -- the next shorter path of one
   pub falls_to : (s : List ℕ) → 0 < length s → IsPath t s → (f : List ℕ) × (state_of t f ≡ slice_index t.fails.items (state_of t s)) × IsNextShorter t s f
-  falls_to s some path = (known (length s)).1 s (omega arith) some path
+  falls_to s some path = (known (length s) s (omega arith) path).0 some

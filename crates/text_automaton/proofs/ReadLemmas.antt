@@ -13,10 +13,7 @@ read_on t text longest place at next state to old here there led known = record 
   from = old.from;
   count = suc old.count;
   here = omega (arith, old.here, there);
-  prefix = elim old.prefix [
-    | inl none ↦ inl none
-    | inr far ↦ inr (omega (arith, far, there))
-  ];
+  early = omega (arith, old.early, there);
   state = led ∙ ap (λ s. step t s (slice_index t.classes (slice_index text at))) old.state
       ∙ ap (λ p. step t (state_after t text old.from old.count) (slice_index t.classes (slice_index text p))) (here ∙ sym old.here);
   known = known;

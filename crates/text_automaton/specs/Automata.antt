@@ -4,6 +4,7 @@ use Rattle.std.specs.List.{sum_by}
 use Rattle.std.specs.List.Sorted.{IsStrictlyIncreasing}
 use Rattle.lit_base.specs.Literals.{Literals}
 use Rattle.lit_base.specs.Occurrences.{Occurs}
+use Rattle.text_ends.specs.Walks.{Walk}
 use Rattle.text_automaton.specs.declared.reading.Reading.{Reading}
 use Rattle.text_automaton.specs.declared.reading.TheConstants.{BLOCK}
 use Rattle.text_automaton.specs.declared.tables.TheConstants.{MOST_STATES}
@@ -53,3 +54,8 @@ pub record IsReading (a : Outputs) (text : List ℕ) (r : Reading) : Type 0 wher
 -- the position up to which it is read
 abbrev pub place_of : Reading → ℕ
 place_of r = r.start + r.next
+
+-- the state of a walk over the ends in a text by an automaton: the walk, and the outputs of the automaton's states
+pub record AutomatonWalk : Type 0 where
+  pub walk : Walk
+  pub automaton : Outputs

@@ -1,5 +1,3 @@
 pub mod Automata
 pub mod Prefixes
-pub mod Stages
 pub mod Tables
-pub mod AutomatonWalks

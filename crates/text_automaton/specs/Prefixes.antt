@@ -1,9 +1,9 @@
 -- Prefixes of literals, and which one a text leads to. Here prefixes and texts stand with their last byte
 -- first, so the end of a text begins it.
-use Rattle.std.specs.Prelude.{◌≡◌, ℕ, zero, suc, ◌+◌, ◌<◌, ◌≤◌, ◌⊎◌, List, [], ◌∷◌, ⊤, length, slice_index}
+use Rattle.std.specs.Prelude.{◌≡◌, ℕ, zero, suc, ◌+◌, ◌-◌, ◌<◌, ◌≤◌, List, [], ◌∷◌, ⊤, length, slice_index}
 use Rattle.lit_base.specs.Folding.{folded}
 use Rattle.lit_base.specs.declared.fold.Fold.{Fold}
-use Rattle.text_automaton.specs.Tables.{IsChild, IsKnown, count_of, state_of, step}
+use Rattle.text_automaton.specs.Tables.{IsPath, count_of, step}
 use Rattle.text_automaton.specs.declared.tables.Tables.{Tables}
 
 -- some bytes begin others
@@ -11,11 +11,6 @@ abbrev pub Begins : List ℕ → List ℕ → Type 0
 Begins [] r = ⊤
 Begins (b ∷ w) [] = ⊥
 Begins (b ∷ w) (c ∷ r) = (b ≡ c) × Begins w r
-
--- each byte leads to a longer prefix
-abbrev pub IsPath : Tables → List ℕ → Type 0
-IsPath t [] = ⊤
-IsPath t (b ∷ s) = IsPath t s × IsKnown t b × IsChild t (state_of t s) (slice_index t.classes b) (step t (state_of t s) (slice_index t.classes b))
 
 -- the longest of the paths that end the bytes read
 pub record Leads (t : Tables) (r s : List ℕ) : Type 0 where
@@ -46,6 +41,6 @@ pub record IsRead (t : Tables) (text : List ℕ) (longest place to : ℕ) : Type
   pub from : ℕ
   pub count : ℕ
   pub here : from + count ≡ place
-  pub prefix : (from ≡ 0) ⊎ (from + longest ≤ place)
+  pub early : from ≤ place - longest
   pub state : to ≡ state_after t text from count
   pub known : to < count_of t

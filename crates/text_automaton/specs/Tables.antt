@@ -1,5 +1,5 @@
 -- When the tables of an automaton are right: the conditions that are checked, state by state.
-use Rattle.std.specs.Prelude.{◌≡◌, ℕ, zero, suc, ◌+◌, ◌*◌, ◌<◌, ◌≤◌, ◌⊎◌, List, [], ◌∷◌, ◌++◌, length, slice_index, slice_range}
+use Rattle.std.specs.Prelude.{◌≡◌, ℕ, zero, suc, ◌+◌, ◌*◌, ◌<◌, ◌≤◌, ◌⊎◌, List, [], ◌∷◌, ◌++◌, ⊤, length, slice_index, slice_range}
 use Rattle.std.specs.List.Sorted.{IsStrictlyIncreasing}
 use Rattle.lit_base.specs.Folding.{folded}
 use Rattle.lit_base.specs.Literals.{Literals, literal_at}
@@ -19,8 +19,8 @@ step t state class = slice_index t.rows.items (CLASSES * state + class)
 abbrev pub output_at : Tables → ℕ → List ℕ
 output_at t state = slice_range t.outputs.items (slice_index t.lows.items state) (slice_index t.highs.items state)
 
--- each state has a row and all other entries; each entry is a state, or a range of the outputs
-pub record AreSized (t : Tables) : Type 0 where
+-- each state has a row and all other entries
+pub record AreAsMany (t : Tables) : Type 0 where
   pub some : 0 < count_of t
   pub few : count_of t ≤ MOST_STATES
   pub rows : length t.rows.items ≡ CLASSES * count_of t
@@ -29,6 +29,10 @@ pub record AreSized (t : Tables) : Type 0 where
   pub owns : length t.owns.items ≡ count_of t
   pub lows : length t.lows.items ≡ count_of t
   pub highs : length t.highs.items ≡ count_of t
+
+-- and each entry is a state, or a range of the outputs
+pub record AreSized (t : Tables) : Type 0 where
+  pub many : AreAsMany t
   pub stepped : (i : ℕ) → i < length t.rows.items → slice_index t.rows.items i < count_of t
   pub known : (state : ℕ) → state < count_of t → (slice_index t.parents.items state < count_of t) × (slice_index t.fails.items state < count_of t)
       × (slice_index t.lows.items state ≤ slice_index t.highs.items state) × (slice_index t.highs.items state ≤ length t.outputs.items)
@@ -69,6 +73,12 @@ pub record IsOutputRight (t : Tables) (count state : ℕ) : Type 0 where
   pub quiet : state < t.quiet → output_at t state ≡ []
   pub reporting : t.quiet ≤ state → 0 < length (output_at t state)
 
+-- a state is right, for a list of `count` literals: where each byte leads, its failure link and its output
+pub record IsState (t : Tables) (count state : ℕ) : Type 0 where
+  pub steps : (class : ℕ) → class < CLASSES → IsStep t state class
+  pub fail : IsFail t state
+  pub output : IsOutputRight t count state
+
 -- the state to which some bytes lead from the first one, the last byte first
 abbrev pub state_of : Tables → List ℕ → ℕ
 state_of t [] = 0
@@ -84,13 +94,14 @@ pub record IsKnown (t : Tables) (byte : ℕ) : Type 0 where
   pub class : slice_index t.classes byte < CLASSES
   pub own : 0 < slice_index t.classes byte → slice_index t.bytes (slice_index t.classes byte) ≡ byte
 
--- a byte leads from the state of some bytes to the state of a longer prefix
-abbrev pub IsLonger : Tables → List ℕ → ℕ → Type 0
-IsLonger t before byte = IsKnown t byte × IsChild t (state_of t before) (slice_index t.classes byte) (state_of t (byte ∷ before))
+-- each byte leads to a longer prefix
+abbrev pub IsPath : Tables → List ℕ → Type 0
+IsPath t [] = ⊤
+IsPath t (b ∷ s) = IsPath t s × IsKnown t b × IsChild t (state_of t s) (slice_index t.classes b) (step t (state_of t s) (slice_index t.classes b))
 
--- a literal's prefixes lead each to the next, and the longest is its state
+-- a literal's bytes lead from prefix to prefix, the last to its state
 pub record IsSpelled (t : Tables) (l : Literals) (place : ℕ) : Type 0 where
-  pub prefixes : (at : ℕ) → at < length (literal_at l place) → IsLonger t (prefix_of (literal_at l place) at) (slice_index (literal_at l place) at)
+  pub path : IsPath t (prefix_of (literal_at l place) (length (literal_at l place)))
   pub end : state_of t (prefix_of (literal_at l place) (length (literal_at l place))) ≡ slice_index t.ends.items place
   pub own : slice_index t.owns.items (slice_index t.ends.items place) ≡ place
 
@@ -98,7 +109,5 @@ pub record IsSpelled (t : Tables) (l : Literals) (place : ℕ) : Type 0 where
 pub record AreRight (t : Tables) (l : Literals) : Type 0 where
   pub sized : AreSized t
   pub classes : AreClasses l.folding t.classes t.bytes
-  pub steps : (state class : ℕ) → state < count_of t → class < CLASSES → IsStep t state class
-  pub fails : (state : ℕ) → 0 < state → state < count_of t → IsFail t state
-  pub reporting : (state : ℕ) → state < count_of t → IsOutputRight t (length l.texts) state
+  pub states : (state : ℕ) → state < count_of t → IsState t (length l.texts) state
   pub spelled : (place : ℕ) → place < length l.texts → IsSpelled t l place

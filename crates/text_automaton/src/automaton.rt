@@ -12,17 +12,6 @@ use std::alloc::{AllocError, Global};
 use std::marker::Model;
 use std::sync::Arc;
 
-/// How far an automaton's tables have come.
-#[derive(Clone, Copy, Debug)]
-pub(crate) enum Stage {
-    /// The tables were not requested yet.
-    Unmade,
-    /// The tables were requested, and refused: the list has too many prefixes, bytes or outputs for them.
-    Refused,
-    /// Its tables were made, and are right.
-    Made,
-}
-
 /// The Aho-Corasick automaton of a list. It steps from state to state by the bytes of a text; the output of the state
 /// at a position is the literals that end there. `new` takes all memory, but only `learn` builds the tables: a search
 /// that never needs them does not write them. Building is not proved; tables that pass the check give all ends, and no
@@ -33,15 +22,16 @@ pub struct Automaton {
     tables: Tables,
     /// The number of states that the tables have room for.
     room: usize,
-    stage: Stage,
+    /// Whether the tables were requested, and refused: the list has too many prefixes, bytes or outputs for them.
+    is_refused: bool,
+    /// Whether they were made, and are right.
+    is_made: bool,
 }
 
 impl Model for Automaton {
-    ghost use Rattle.std.specs.Prelude.{◌≡◌};
+    ghost use Rattle.std.specs.Prelude.{◌≡◌, true};
     ghost use Rattle.text_automaton.specs.Automata.{Outputs, room_of};
-    ghost use Rattle.text_automaton.specs.Stages.{is_made};
     ghost use Rattle.text_automaton.specs.Tables.{AreRight};
-    ghost use Rattle.text_automaton.specs.declared.automaton.Stage.TheVariants.{Made};
 
     ghost Value = { Outputs };
 
@@ -51,10 +41,10 @@ impl Model for Automaton {
       lows = a.tables.lows.items;
       highs = a.tables.highs.items;
       quiet = a.tables.quiet;
-      is_made = is_made a.stage;
+      is_made = a.is_made;
     } };
 
-    ghost invariant = { λ a. (a.stage ≡ Made → AreRight a.tables a.index.value) × (a.room ≡ room_of a.index.value) };
+    ghost invariant = { λ a. (a.is_made ≡ true → AreRight a.tables a.index.value) × (a.room ≡ room_of a.index.value) };
 }
 
 impl Automaton {
@@ -69,7 +59,8 @@ impl Automaton {
             index,
             tables: Tables::new(alloc, room)?,
             room,
-            stage: Stage::Unmade,
+            is_refused: false,
+            is_made: false,
         })
     }
 
@@ -95,26 +86,21 @@ impl Automaton {
         ensures made { result ≡ self.new.is_made }
         ensures kept { self.old.is_made ≡ true → self.new ≡ self.old }
     {
-        match self.stage {
-            Stage::Made => true,
-            Stage::Refused => false,
-            Stage::Unmade => {
-                let is_right = self.tables.make_right(self.index.list());
-                self.stage = if is_right {
-                    Stage::Made
-                } else {
-                    Stage::Refused
-                };
-                is_right
-            }
+        if self.is_made || self.is_refused {
+            return self.is_made;
         }
+        let list = self.index.list();
+        let is_right = self.tables.make(list).is_some() && self.tables.are_right(list);
+        self.is_made = is_right;
+        self.is_refused = !is_right;
+        is_right
     }
 
     /// Whether the tables are made.
     pub(crate) fn is_made(&self) -> bool
         ensures { result ≡ self.now.is_made }
     {
-        matches!(self.stage, Stage::Made)
+        self.is_made
     }
 
     /// The next position at which some literal ends, with its state; the reading moves there. `None` if no literal ends

@@ -5,7 +5,7 @@ ghost use Rattle.text_ends.specs.HitsAt.{Extends, GainsHitsAt};
 ghost use Rattle.text_automaton.specs.Automata.{AreEnding, IsStateAt};
 
 use crate::automaton::Automaton;
-use crate::reading::{BLOCK, Reading};
+use crate::reading::{ROOM, Reading};
 use list_index::ListIndex;
 use std::alloc::AllocError;
 use std::marker::Model;
@@ -22,8 +22,7 @@ pub struct AutomatonEnds<'a> {
 
 impl<'a> Model for AutomatonEnds<'a> {
     ghost use Rattle.std.specs.Prelude.{◌≡◌};
-    ghost use Rattle.text_automaton.specs.AutomatonWalks.{AutomatonWalk};
-    ghost use Rattle.text_automaton.specs.Automata.{IsReading, place_of};
+    ghost use Rattle.text_automaton.specs.Automata.{AutomatonWalk, IsReading, place_of};
 
     ghost Value = { AutomatonWalk };
 
@@ -49,7 +48,7 @@ impl<'a> AutomatonEnds<'a> {
             automaton,
             text,
             reading: Reading {
-                states: [0; BLOCK],
+                states: [0; ROOM],
                 start: from,
                 count: 0,
                 next: 0,

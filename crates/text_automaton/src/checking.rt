@@ -3,22 +3,12 @@ ghost use Rattle.std.specs.Prelude.{◌≡◌, ◌↔◌, ◌⊎◌, ◌++◌, �
 ghost use Rattle.std.specs.List.Sorted.{IsStrictlyIncreasing};
 ghost use Rattle.lit_base.specs.Literals.{literal_at};
 ghost use Rattle.lit_base.specs.Folding.{folded};
-ghost use Rattle.text_automaton.specs.Tables.{AreClasses, AreRight, AreSized, IsChild, IsFail, IsKnown, IsSpelled, IsStep, IsOutputRight, step, output_at};
+ghost use Rattle.text_automaton.specs.Tables.{AreAsMany, AreClasses, AreRight, AreSized, IsChild, IsFail, IsKnown, IsOutputRight, IsSpelled, IsState, IsStep, output_at, step};
 
 use crate::tables::{CLASSES, MOST_STATES, Tables};
 use lit_base::{Fold, LitList, fold_byte};
 
 impl Tables {
-    /// Builds the tables of a list. Returns whether they are right.
-    pub fn make_right(&mut self, list: &LitList) -> bool
-        ensures { IsTrue result → AreRight self.new list.now }
-    {
-        if self.make(list).is_none() {
-            return false;
-        }
-        self.are_right(list)
-    }
-
     /// Whether the tables are right for a list.
     pub fn are_right(&self, list: &LitList) -> bool
         ensures { IsTrue result → AreRight self.now list.now }
@@ -26,10 +16,7 @@ impl Tables {
         if !self.are_sized() {
             return false;
         }
-        if !self.are_classes(list.fold()) || !self.are_steps() || !self.are_fails() {
-            return false;
-        }
-        if !self.are_outputs_right(list.len()) {
+        if !self.are_classes(list.fold()) || !self.are_states(list.len()) {
             return false;
         }
         self.are_spelled(list)
@@ -39,20 +26,14 @@ impl Tables {
     fn are_sized(&self) -> bool
         ensures { IsTrue result → AreSized self.now }
     {
-        let count = self.count();
+        let count = self.parents.len();
         self.are_as_many(count) && self.are_stepped(count) && self.are_known(count)
     }
 
     /// Whether all vectors have entries for `count` states, a number in range.
     fn are_as_many(&self, count: usize) -> bool
-        ensures some { IsTrue result → 0 < count }
-        ensures few { IsTrue result → count ≤ MOST_STATES }
-        ensures rows { IsTrue result → length self.now.rows.items ≡ CLASSES * count }
-        ensures lasts { IsTrue result → length self.now.lasts.items ≡ count }
-        ensures fails { IsTrue result → length self.now.fails.items ≡ count }
-        ensures owns { IsTrue result → length self.now.owns.items ≡ count }
-        ensures lows { IsTrue result → length self.now.lows.items ≡ count }
-        ensures highs { IsTrue result → length self.now.highs.items ≡ count }
+        requires { count ≡ length self.now.parents.items }
+        ensures { IsTrue result → AreAsMany self.now }
     {
         count != 0
             && count <= MOST_STATES
@@ -79,10 +60,8 @@ impl Tables {
 
     /// Whether each of `count` states has a parent and a failure link among them, and a range of the outputs.
     fn are_known(&self, count: usize) -> bool
+        requires many { AreAsMany self.now }
         requires count { count ≡ length self.now.parents.items }
-        requires fails { length self.now.fails.items ≡ count }
-        requires lows { length self.now.lows.items ≡ count }
-        requires highs { length self.now.highs.items ≡ count }
         ensures { IsTrue result → (state : ℕ) → state < count → (slice_index self.now.parents.items state < count) × (slice_index self.now.fails.items state < count)
             × (slice_index self.now.lows.items state ≤ slice_index self.now.highs.items state) × (slice_index self.now.highs.items state ≤ length self.now.outputs.items) }
     {
@@ -138,13 +117,13 @@ impl Tables {
             && self.lasts[to] as usize == class
     }
 
-    /// Whether each byte leads from each state where it should.
-    fn are_steps(&self) -> bool
+    /// Whether each state is right, for a list of `count` literals.
+    fn are_states(&self, count: usize) -> bool
         requires { AreSized self.now }
-        ensures { IsTrue result → (state class : ℕ) → state < length self.now.parents.items → class < CLASSES → IsStep self.now state class }
+        ensures { IsTrue result → (state : ℕ) → state < length self.now.parents.items → IsState self.now count state }
     {
-        for state in 0..self.count() {
-            if !self.is_row(state) {
+        for state in 0..self.parents.len() {
+            if !self.is_state(count, state) {
                 return false;
             }
         }
@@ -152,6 +131,15 @@ impl Tables {
     }
 
     /// The same for one state.
+    fn is_state(&self, count: usize, state: usize) -> bool
+        requires sized { AreSized self.now }
+        requires state { state < length self.now.parents.items }
+        ensures { IsTrue result → IsState self.now count state }
+    {
+        self.is_row(state) && self.is_fail(state) && self.is_output_right(count, state)
+    }
+
+    /// Whether each byte leads from a state where it should.
     fn is_row(&self, state: usize) -> bool
         requires sized { AreSized self.now }
         requires state { state < length self.now.parents.items }
@@ -165,7 +153,7 @@ impl Tables {
         true
     }
 
-    /// The same for one state and one class of bytes.
+    /// The same for one class of bytes.
     #[inline]
     fn is_step(&self, state: usize, class: usize) -> bool
         requires sized { AreSized self.now }
@@ -194,42 +182,18 @@ impl Tables {
         self.fails[state] as usize
     }
 
-    /// Whether the failure link of each state is right.
-    fn are_fails(&self) -> bool
-        requires { AreSized self.now }
-        ensures { IsTrue result → (state : ℕ) → 0 < state → state < length self.now.parents.items → IsFail self.now state }
-    {
-        for state in 0..self.count() {
-            if state != 0 && !self.is_fail(state) {
-                return false;
-            }
-        }
-        true
-    }
-
-    /// The same for one state.
+    /// Whether the failure link of a state is right.
     fn is_fail(&self, state: usize) -> bool
         requires sized { AreSized self.now }
         requires state { state < length self.now.parents.items }
         ensures { IsTrue result → IsFail self.now state }
     {
-        let parent = self.parent(state);
+        let parent = self.parents[state] as usize;
         if parent == 0 {
             return self.fail(state) == 0;
         }
         let class = self.lasts[state] as usize;
         class < CLASSES && self.fail(state) == self.step(self.fail(parent), class)
-    }
-
-    /// The parent of a state: the state of its prefix without the last byte.
-    #[inline]
-    fn parent(&self, state: usize) -> usize
-        requires sized { AreSized self.now }
-        requires state { state < length self.now.parents.items }
-        ensures value { result ≡ slice_index self.now.parents.items state }
-        ensures state { result < length self.now.parents.items }
-    {
-        self.parents[state] as usize
     }
 
     /// The output of a state: its literals.
@@ -242,20 +206,7 @@ impl Tables {
         &self.outputs[self.lows[state] as usize..self.highs[state] as usize]
     }
 
-    /// Whether each state has the right output, for a list of `count` literals.
-    fn are_outputs_right(&self, count: usize) -> bool
-        requires { AreSized self.now }
-        ensures { IsTrue result → (state : ℕ) → state < length self.now.parents.items → IsOutputRight self.now count state }
-    {
-        for state in 0..self.count() {
-            if !self.is_output_right(count, state) {
-                return false;
-            }
-        }
-        true
-    }
-
-    /// The same for one state.
+    /// Whether a state has the right output, for a list of `count` literals.
     fn is_output_right(&self, count: usize, state: usize) -> bool
         requires sized { AreSized self.now }
         requires state { state < length self.now.parents.items }
@@ -274,17 +225,8 @@ impl Tables {
         requires state { state < length self.now.parents.items }
         ensures { IsTrue result → slice_index self.now.owns.items state < count → slice_index self.now.ends.items (slice_index self.now.owns.items state) ≡ state }
     {
-        let own = self.own(state);
+        let own = self.owns[state] as usize;
         own >= count || own < self.ends.len() && self.ends[own] as usize == state
-    }
-
-    /// The literal that a state spells, or a number that stands for none.
-    fn own(&self, state: usize) -> usize
-        requires sized { AreSized self.now }
-        requires state { state < length self.now.parents.items }
-        ensures { result ≡ slice_index self.now.owns.items state }
-    {
-        self.owns[state] as usize
     }
 
     /// Whether the output of a state is the output of its failure link and the literal that it spells, if there is one.
@@ -300,7 +242,7 @@ impl Tables {
             return output.is_empty();
         }
         let others = self.output_at(self.fail(state));
-        let own = self.own(state);
+        let own = self.owns[state] as usize;
         if own < count {
             is_with(output, others, own)
         } else {
@@ -342,7 +284,9 @@ impl Tables {
             }
             state = next;
         }
-        place < self.ends.len() && self.ends[place] as usize == state && self.own(state) == place
+        place < self.ends.len()
+            && self.ends[place] as usize == state
+            && self.owns[state] as usize == place
     }
 }
 
@@ -350,11 +294,10 @@ impl Tables {
 fn is_with(output: &[u16], others: &[u16], own: usize) -> bool
     ensures { IsTrue result → output.now ≡ others.now ++ own ∷ [] }
 {
-    let count = others.len();
-    if output.len() <= count || output.len() - count != 1 || output[count] as usize != own {
-        return false;
+    match output.split_last() {
+        Some((last, rest)) => usize::from(*last) == own && rest == others,
+        None => false,
     }
-    &output[..count] == others
 }
 
 /// Whether literals stand in order, each once.

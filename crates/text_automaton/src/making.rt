@@ -5,37 +5,36 @@ use crate::tables::{CLASSES, MOST_OUTPUTS, MOST_STATES, NONE, Tables};
 use lit_base::{LitList, MAX_LITERALS, fold_byte};
 
 impl Tables {
-    /// Builds the tables of a list. `None` if it has more than `MOST_STATES` prefixes, `CLASSES - 1` bytes or
-    /// `MOST_OUTPUTS` outputs over all states.
+    /// Builds the tables of a list, in empty ones. `None` if it has more than `MOST_STATES` prefixes, `CLASSES - 1`
+    /// bytes or `MOST_OUTPUTS` outputs over all states.
     pub fn make(&mut self, list: &LitList) -> Option<()> {
-        self.begin(list);
         self.class_bytes(list)?;
+        self.ends.resize(list.len(), 0).ok()?;
+        // The first state stands for the empty prefix.
+        self.add_state(0, 0, 0)?;
         self.grow(list)?;
         self.note_outputs()?;
         self.partition_silent();
         Some(())
     }
 
-    /// Keeps only the first state, which stands for the empty prefix.
-    fn begin(&mut self, list: &LitList) {
-        self.rows.clear();
-        self.parents.clear();
-        self.lasts.clear();
-        self.fails.clear();
-        self.owns.clear();
-        self.outputs.clear();
-        self.ends.clear();
-        // It takes no memory, and so is not refused.
-        let _are_made = self.ends.resize(list.len(), 0);
-        let _first = self.add_state(0, 0, 0);
-    }
-
     /// Gives each byte of a literal a class, and those that are folded to it the same.
     fn class_bytes(&mut self, list: &LitList) -> Option<()> {
-        self.classes = [0; 256];
+        let mut is_used = [false; 256];
         for place in 0..list.len() {
             for byte in list.get(place) {
-                self.class_byte(*byte)?;
+                is_used[*byte as usize] = true;
+            }
+        }
+        let mut class = 0usize;
+        for byte in 0..256usize {
+            if is_used[byte] {
+                class = class.saturating_add(1);
+                if class >= CLASSES {
+                    return None;
+                }
+                self.classes[byte] = class as u8;
+                self.bytes[class] = byte as u8;
             }
         }
         for byte in 0..256usize {
@@ -43,29 +42,6 @@ impl Tables {
             self.classes[byte] = self.classes[folded as usize];
         }
         Some(())
-    }
-
-    /// Gives a byte a class of its own, unless it has one.
-    fn class_byte(&mut self, byte: u8) -> Option<()> {
-        if self.classes[byte as usize] != 0 {
-            return Some(());
-        }
-        let class = self.count_classes();
-        if class >= CLASSES {
-            return None;
-        }
-        self.classes[byte as usize] = class as u8;
-        self.bytes[class] = byte;
-        Some(())
-    }
-
-    /// One more than the greatest class.
-    fn count_classes(&self) -> usize {
-        let mut most = 0;
-        for byte in 0..256usize {
-            most = self.classes[byte].max(most);
-        }
-        usize::from(most).saturating_add(1)
     }
 
     /// Adds a state, if there is room for it.
@@ -150,14 +126,11 @@ impl Tables {
 
     /// Lists the output of each state: the output of its failure link, and the literal that it spells.
     fn note_outputs(&mut self) -> Option<()> {
-        self.lows.clear();
-        self.highs.clear();
         for state in 0..self.parents.len() {
             let low = u16::try_from(self.outputs.len()).ok()?;
             let fail = usize::from(at(&self.fails, state));
-            let (first, last) = self.range_at(fail);
-            for place in first..last {
-                let literal = at(&self.outputs, place);
+            for place in at(&self.lows, fail)..at(&self.highs, fail) {
+                let literal = at(&self.outputs, usize::from(place));
                 self.note_output(literal)?;
             }
             let own = at(&self.owns, state);
@@ -180,12 +153,6 @@ impl Tables {
         self.outputs.push(literal).ok()
     }
 
-    /// Where the output of a state begins in `outputs`, and where it ends.
-    fn range_at(&self, state: usize) -> (usize, usize) {
-        let (low, high) = (at(&self.lows, state), at(&self.highs, state));
-        (usize::from(low), usize::from(high))
-    }
-
     /// Moves the states with output after the states without.
     fn partition_silent(&mut self) {
         let mut names = [0u16; MOST_STATES];
@@ -197,14 +164,13 @@ impl Tables {
         while low < high {
             if self.is_quiet(low) {
                 low += 1;
-            } else if !self.is_quiet(high - 1) {
-                high -= 1;
             } else {
                 high -= 1;
-                self.swap(low, high);
-                names[low] = high as u16;
-                names[high] = low as u16;
-                low += 1;
+                if self.is_quiet(high) {
+                    self.swap(low, high);
+                    names[low] = high as u16;
+                    names[high] = low as u16;
+                }
             }
         }
         self.quiet = low;
@@ -216,8 +182,7 @@ impl Tables {
 
     /// Whether a state has no output.
     fn is_quiet(&self, state: usize) -> bool {
-        let (low, high) = self.range_at(state);
-        low == high
+        at(&self.lows, state) == at(&self.highs, state)
     }
 
     /// Lets two states change places.

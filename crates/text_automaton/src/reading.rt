@@ -3,6 +3,7 @@ ghost use Rattle.std.specs.Prelude.{◌≡◌, ℕ, ◌+◌, ◌-◌, ◌*◌, �
 ghost use Rattle.text_automaton.specs.Prefixes.{IsRead};
 ghost use Rattle.text_automaton.specs.Tables.{AreSized, HaveClasses, step};
 
+use crate::reporting::STATES;
 use crate::tables::Tables;
 
 /// The number of lanes, one after the other in the text. A step has to wait for the state before it; meanwhile the
@@ -12,10 +13,13 @@ const LANES: usize = 4;
 /// The number of positions read at once, if the text has as many.
 pub(crate) const BLOCK: usize = 4096;
 
+/// Room for their states, and for those that are compared beside the last of them.
+pub(crate) const ROOM: usize = BLOCK + STATES;
+
 /// The states of some positions of a text, and how many of them are passed.
 #[derive(Debug, Drop)]
 pub(crate) struct Reading {
-    pub states: [u16; BLOCK],
+    pub states: [u16; ROOM],
     /// The position before the first of them.
     pub start: usize,
     /// How many there are.
@@ -59,7 +63,7 @@ impl Tables {
         text: &[u8],
         longest: usize,
         start: usize,
-        states: &mut [u16; BLOCK],
+        states: &mut [u16; ROOM],
     ) -> usize
         requires sized { AreSized self.now }
         requires classes { HaveClasses self.now }
@@ -87,7 +91,7 @@ impl Tables {
         start: usize,
         known: usize,
         count: usize,
-        states: &mut [u16; BLOCK],
+        states: &mut [u16; ROOM],
     )
         requires sized { AreSized self.now }
         requires classes { HaveClasses self.now }
@@ -114,7 +118,7 @@ impl Tables {
         longest: usize,
         start: usize,
         lane: usize,
-        states: &mut [u16; BLOCK],
+        states: &mut [u16; ROOM],
     )
         requires sized { AreSized self.now }
         requires classes { HaveClasses self.now }

@@ -1,18 +1,18 @@
 //! Finding the states with output among the states that were read.
-ghost use Rattle.std.specs.Prelude.{◌≡◌, ◌↔◌, ℕ, ◌+◌, ◌^◌, ◌<◌, ◌≤◌, length, slice_index};
-ghost use Rattle.std.specs.Int.{bit_at};
+ghost use Rattle.std.specs.Prelude.{ℕ, ◌+◌, ◌<◌, ◌≤◌, length, slice_index};
 ghost use Rattle.text_automaton.specs.declared.reporting.TheConstants.{STATES};
 
 use std::simd::prelude::*;
 
 /// The number of states compared at once.
-const STATES: usize = 32;
+pub(crate) const STATES: usize = 32;
 
 /// The index of the first state from `from` on that has an output, so is `quiet` or above; `count` if there is none.
+/// There is room to compare some states after `count` too.
 #[inline(always)]
 pub(crate) fn first_reporting(states: &[u16], from: usize, count: usize, quiet: usize) -> usize
     requires from { from ≤ count }
-    requires room { count ≤ length states.now }
+    requires room { count + STATES ≤ length states.now }
     ensures after { from ≤ result }
     ensures within { result ≤ count }
     ensures none { (at : ℕ) → from ≤ at → at < result → slice_index states.now at < quiet }
@@ -22,42 +22,26 @@ pub(crate) fn first_reporting(states: &[u16], from: usize, count: usize, quiet: 
         return count;
     }
     let mut at = from;
-    'chunks: while count - at >= STATES {
-        let skipped = quiet_bits(states, at, quiet as u16).trailing_ones() as usize;
+    'chunks: while at < count {
+        let skipped = count_quiet(states, at, quiet as u16);
         if skipped < STATES {
-            return at + skipped;
+            return count.min(at + skipped);
         }
         at += STATES;
-    }
-    first_of_rest(states, at, count, quiet)
-}
-
-/// The same one by one.
-#[inline]
-fn first_of_rest(states: &[u16], from: usize, count: usize, quiet: usize) -> usize
-    requires from { from ≤ count }
-    requires room { count ≤ length states.now }
-    ensures after { from ≤ result }
-    ensures within { result ≤ count }
-    ensures none { (at : ℕ) → from ≤ at → at < result → slice_index states.now at < quiet }
-    ensures reporting { result < count → quiet ≤ slice_index states.now result }
-{
-    for at in from..count {
-        if states[at] as usize >= quiet {
-            return at;
-        }
     }
     count
 }
 
-/// Bit k is set if the state k positions after `at` has no output.
+/// How many of the next `STATES` states have no output, up to the first that has.
 #[inline(always)]
-fn quiet_bits(states: &[u16], at: usize, quiet: u16) -> u64
+fn count_quiet(states: &[u16], at: usize, quiet: u16) -> usize
     requires { at + STATES ≤ length states.now }
-    ensures bits { (k : ℕ) → k < 32 → (bit_at result k ≡ 1) ↔ (slice_index states.now (at + k) < quiet) }
-    ensures few { result < 2 ^ 32 }
+    ensures few { result ≤ STATES }
+    ensures none { (k : ℕ) → k < result → slice_index states.now (at + k) < quiet }
+    ensures reporting { result < STATES → quiet ≤ slice_index states.now (at + result) }
 {
-    u16x32::from_slice(&states[at..])
+    let bits = u16x32::from_slice(&states[at..])
         .simd_lt(u16x32::splat(quiet))
-        .to_bitmask()
+        .to_bitmask();
+    bits.trailing_ones() as usize
 }

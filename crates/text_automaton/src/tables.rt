@@ -71,14 +71,6 @@ impl Tables {
         })
     }
 
-    /// How many states there are.
-    #[inline]
-    pub fn count(&self) -> usize
-        ensures { result ≡ length self.now.parents.items }
-    {
-        self.parents.len()
-    }
-
     /// The state to which a byte of a class leads from a state.
     #[inline(always)]
     pub fn step(&self, state: usize, class: usize) -> usize

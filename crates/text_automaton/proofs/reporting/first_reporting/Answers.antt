@@ -1,42 +1,31 @@
--- As many states have no output as there are bits in a row.
-use Rattle.std.proofs.Common.{◌≡◌, ◌+◌, ◌-◌, ◌<◌, inl, inr, slice_index, subst, arith}
+-- The states passed are those before a chunk, and those that are counted in it.
+use Rattle.std.proofs.Common.{◌≡◌, ◌+◌, ◌-◌, ◌<◌, ◌≤◌, inl, inr, slice_index, subst, arith}
 use Rattle.std.proofs.lemmas.Bool.{cases_lt}
-use Rattle.text_automaton.proofs.QuietLemmas.{skipped}
 use Rattle.text_automaton.proofs.reporting.first_reporting.Goals as goal
 
 pub returns-then-skipped-lt-STATES-clause-none : goal.returns-then-skipped-lt-STATES-clause-none
-returns-then-skipped-lt-STATES-clause-none c at after before = elim (cases_lt at c.chunks.at) [
-  | inl sooner ↦ c.chunks.invariant.none at after sooner
+returns-then-skipped-lt-STATES-clause-none c k after before = elim (cases_lt k c.chunks.at) [
+  | inl sooner ↦ c.chunks.invariant.none k after sooner
   | inr later ↦
-      let k = at - c.chunks.at in
-      let ones = skipped c.quiet_bits.result c.trailing_ones-skipped.result c.quiet_bits.ensures.few c.trailing_ones-skipped.ensures in
-      let here : c.chunks.at + k ≡ at = omega (arith, later) in
-      subst (λ p. slice_index c.args.states.now p < c.args.quiet) here
-      ((c.quiet_bits.ensures.bits k (omega (arith, before, later, c.if-skipped-lt-STATES.true))).0 (ones.1 k (omega (arith, before, later))))
+      let here : c.chunks.at + (k - c.chunks.at) ≡ k = omega (arith, later) in
+      subst (λ p. slice_index c.args.states.now p < c.args.quiet) here (c.count_quiet-skipped.ensures.none (k - c.chunks.at) (omega (arith, before, later, c.min.ensures)))
 ]
 
 pub returns-then-skipped-lt-STATES-clause-reporting : goal.returns-then-skipped-lt-STATES-clause-reporting
-returns-then-skipped-lt-STATES-clause-reporting c low =
-    let k = c.trailing_ones-skipped.result in
-    let ones = skipped c.quiet_bits.result k c.quiet_bits.ensures.few c.trailing_ones-skipped.ensures in
-    elim (cases_lt (slice_index c.args.states.now (c.chunks.at + k)) c.args.quiet) [
-      | inl less ↦ let set = (c.quiet_bits.ensures.bits k c.if-skipped-lt-STATES.true).1 less in absurd (omega (arith, set, ones.0))
-      | inr more ↦ more
-    ]
+returns-then-skipped-lt-STATES-clause-reporting c inside =
+    let here : c.chunks.at + c.count_quiet-skipped.result ≡ c.min.result = omega (arith, inside, c.min.ensures) in
+    subst (λ p. c.args.quiet ≤ slice_index c.args.states.now p) here (c.count_quiet-skipped.ensures.reporting c.if-skipped-lt-STATES.true)
 
 pub chunks-preserved : goal.chunks-preserved
 chunks-preserved c =
     let before = c.chunks.invariant in
-    let ones = skipped c.quiet_bits.result c.trailing_ones-skipped.result c.quiet_bits.ensures.few c.trailing_ones-skipped.ensures in
     record {
       after = omega (arith, before.after);
       within = omega (arith, c.chunks-test.true, before.within);
-      none = λ at from low. elim (cases_lt at c.chunks.at) [
-        | inl sooner ↦ before.none at from sooner
+      none = λ k after low. elim (cases_lt k c.chunks.at) [
+        | inl sooner ↦ before.none k after sooner
         | inr later ↦
-            let k = at - c.chunks.at in
-            let here : c.chunks.at + k ≡ at = omega (arith, later) in
-            subst (λ p. slice_index c.args.states.now p < c.args.quiet) here
-            ((c.quiet_bits.ensures.bits k (omega (arith, low, later))).0 (ones.1 k (omega (arith, low, later, c.if-skipped-lt-STATES.false))))
+            let here : c.chunks.at + (k - c.chunks.at) ≡ k = omega (arith, later) in
+            subst (λ p. slice_index c.args.states.now p < c.args.quiet) here (c.count_quiet-skipped.ensures.none (k - c.chunks.at) (omega (arith, low, later, c.if-skipped-lt-STATES.false)))
       ];
     }

@@ -6,8 +6,6 @@ pub returns : goal.returns
 returns c passed = record {
   sized = c.if-not-are_sized.ensures refl;
   classes = rw c.fold.ensures at (c.if-not-are_classes.ensures refl);
-  steps = c.if-not-are_steps.ensures refl;
-  fails = c.if-not-are_fails.ensures refl;
-  reporting = rw c.len.ensures.value at (c.if-not-are_outputs_right.ensures refl);
+  states = rw c.len.ensures.value at (c.if-not-are_states.ensures refl);
   spelled = c.are_spelled.ensures passed;
 }

@@ -24,9 +24,9 @@ lanes-preserved c =
     let two = set one at c.next_state-first.result in
     let three = set two (lane + at) c.next_state-second.result in
     let four = set three (2 * lane + at) c.next_state-third.result in
-    let long_two : length two ≡ 4096 = length-set one at c.next_state-first.result ∙ before.room in
-    let long_three : length three ≡ 4096 = length-set two (lane + at) c.next_state-second.result ∙ long_two in
-    let long_four : length four ≡ 4096 = length-set three (2 * lane + at) c.next_state-third.result ∙ long_three in
+    let long_two : length two ≡ 4128 = length-set one at c.next_state-first.result ∙ before.room in
+    let long_three : length three ≡ 4128 = length-set two (lane + at) c.next_state-second.result ∙ long_two in
+    let long_four : length four ≡ 4128 = length-set three (2 * lane + at) c.next_state-third.result ∙ long_three in
     let Read = λ (k s : ℕ). IsRead t text longest (start + k + 1) s in
     record {
       room = length-set four (3 * lane + at) c.next_state-fourth.result ∙ long_four;
