@@ -31,7 +31,7 @@ SHAPES = {
     "text_search": {},
     "factor_search": {
         "probing.rt": {"BLOCK", "BLOCK_BITS", "FIRST", "STEP"},
-        "counts.rt": {"MASKED", "NEVER", "OFFSETS"},
+        "counts.rt": {"MASKED", "OFFSETS"},
         "grouping.rt": {"BUCKETS", "POSITIONS"},
         "marking.rt": {"MOST_OFFSET"},
         "widths.rt": {"WIDTH"},

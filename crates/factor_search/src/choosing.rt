@@ -1,9 +1,9 @@
 //! Chooses the factor of each literal and estimates the search by it. A choice changes the time of a search, never its
 //! result.
-ghost use Rattle.std.specs.Prelude.{◌≡◌, ◌^◌, ◌<◌, length, vec_len};
+ghost use Rattle.std.specs.Prelude.{◌≡◌, ◌^◌, length, vec_len};
 ghost use Rattle.list_index.specs.declared.suffixes.hash_bits.TheConstants.{HASH_BITS};
 
-use crate::counts::{Counts, OFFSETS};
+use crate::counts::Counts;
 use crate::prices::cost_of_masks;
 use crate::tuning::{ESTIMATED_START_COST, SPARSE};
 use lit_base::LitList;
@@ -18,21 +18,8 @@ pub(crate) fn choose_offsets(list: &LitList, counts: &Counts, offsets: &mut Vec<
     ensures { vec_len offsets.new ≡ vec_len offsets.old }
 {
     for place in 0..list.len() {
-        offsets[place] = rarest(counts.of_literal(list, place)) as u8;
+        offsets[place] = counts.rarest(list, place) as u8;
     }
-}
-
-/// The offset with the lowest count, and the nearest to the end of several.
-fn rarest(counts: [u32; 8]) -> usize
-    ensures { result < 8 }
-{
-    let mut best = 0;
-    for offset in 1..OFFSETS {
-        if counts[offset] < counts[best] {
-            best = offset;
-        }
-    }
-    best
 }
 
 /// The estimate of a search by these masks, in tenths of a nanosecond for 1,024 bytes, given a sample and the rate of

@@ -9,10 +9,7 @@ use std::alloc::{AllocError, Global};
 
 /// The factors of a literal to choose from: the last of them ends at the literal's end, each other a byte before the
 /// next.
-pub(crate) const OFFSETS: usize = 8;
-
-/// The count of a factor that a literal does not have.
-pub(crate) const NEVER: u32 = 1 << 28;
+const OFFSETS: usize = 8;
 
 /// The masks see this many bytes of a factor.
 const MASKED: usize = 3;
@@ -42,21 +39,25 @@ impl Counts {
         count_sample(&mut self.threes, case_bits(list.fold()), sample);
     }
 
-    /// How often the last three bytes of each of a literal's last factors occurred.
-    pub fn of_literal(&self, list: &LitList, place: usize) -> [u32; 8]
+    /// The offset of the factor of a literal whose last three bytes are the rarest; of several, the nearest to the end.
+    pub fn rarest(&self, list: &LitList, place: usize) -> usize
         requires threes { vec_len self.now.threes ≡ 2 ^ HASH_BITS }
         requires within { place < length list.now.texts }
+        ensures { result < 8 }
     {
         let literal = list.get(place);
-        let mut found = [NEVER; 8];
-        for back in 0..OFFSETS {
-            if WIDTH + back <= literal.len() {
-                let end = literal.len() - back;
+        let (mut best, mut least) = (0, u16::MAX);
+        for offset in 0..OFFSETS {
+            if WIDTH + offset <= literal.len() {
+                let end = literal.len() - offset;
                 let number = hash_of(HASH_BITS, suffix_key(list.fold(), literal, end, MASKED));
-                found[back] = u32::from(self.threes[number]);
+                if self.threes[number] < least {
+                    best = offset;
+                    least = self.threes[number];
+                }
             }
         }
-        found
+        best
     }
 }
 

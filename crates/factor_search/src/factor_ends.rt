@@ -1,13 +1,13 @@
 //! Searches for ends by factors that were chosen from a sample.
-ghost use Rattle.std.specs.Prelude.{◌≡◌, ℕ, ◌+◌, ◌-◌, ◌^◌, ◌<◌, ◌≤◌, IfSome, MatchOption, length, min};
-ghost use Rattle.std.specs.Int.{bit_at};
-ghost use Rattle.lit_base.specs.Occurrences.{HasEnd, IsFirstEnding};
+ghost use Rattle.std.specs.Prelude.{◌≡◌, ℕ, ◌+◌, ◌-◌, ◌^◌, ◌<◌, ◌≤◌, IfSome, List, MatchOption, length};
+ghost use Rattle.lit_base.specs.Occurrences.{IsFirstEnding};
 ghost use Rattle.lit_base.specs.NextEnds.{IsNextEnd, NoEndAfter, NoEndUpTo};
-ghost use Rattle.factor_search.specs.PendingEnds.{ArePendingEnds};
-ghost use Rattle.factor_search.specs.declared.probing.TheConstants.{BLOCK};
+ghost use Rattle.factor_search.specs.Factors.{Factored};
+ghost use Rattle.factor_search.specs.PendingEnds.{ArePending, ArePendingEnds};
+ghost use Rattle.factor_search.specs.declared.factor_ends.TheConstants.{REACH};
 
 use crate::factors::Factors;
-use crate::probing::{BLOCK, next_pending, pending_after};
+use crate::probing::{BLOCK, next_pending};
 use list_index::ListIndex;
 use std::alloc::AllocError;
 use std::marker::Model;
@@ -31,20 +31,18 @@ impl Pending {
     /// The pending ends of a search after `from`. It takes no memory.
     pub fn after(factors: &Factors, text: &[u8], from: usize, tally: &mut Tally) -> Pending
         requires { from ≤ length text.now }
-        ensures state { ArePendingEnds factors.now text.now result }
-        ensures seen { result.seen ≡ from }
+        ensures state { ArePendingEnds factors.now text.now result.seen result }
+        ensures ahead { from ≤ result.seen }
+        ensures none { NoEndUpTo factors.now.literals text.now from result.seen }
     {
         factors.within_law();
         let start = from.saturating_sub(REACH);
-        let hash_bits = pending_after(factors, text, start, 0, tally);
-        let block = Pending {
+        let nothing = Pending {
             seen: start,
-            count: BLOCK.min(text.len() - start),
-            hash_bits,
+            count: 0,
+            hash_bits: 0,
         };
-        let rest = block.but_first(from - start);
-        tally.pending(rest.hash_bits);
-        rest
+        nothing.next_block(factors, text, from, tally)
     }
 
     /// The pending ends without the first `count` positions.
@@ -55,7 +53,8 @@ impl Pending {
         requires room { self.seen + count < 2 ^ 64 }
         ensures seen { result.seen ≡ self.seen + count }
         ensures count { result.count ≡ self.count - count }
-        ensures hash_bits { (back : ℕ) → bit_at result.hash_bits back ≡ bit_at self.hash_bits (count + back) }
+        ensures state { (w : Factored) (text : List ℕ) (from : ℕ) → ArePendingEnds w text from self → from ≤ self.seen + count
+            → ArePendingEnds w text result.seen result }
     {
         Pending {
             seen: self.seen + count,
@@ -75,8 +74,8 @@ impl Pending {
         tally: &mut Tally,
     ) -> Option<(usize, usize)>
         requires list { factors.now.literals ≡ list.now }
-        requires state { ArePendingEnds factors.now text.now self.old }
-        ensures state { ArePendingEnds factors.now text.now self.new }
+        requires state { ArePendingEnds factors.now text.now self.old.seen self.old }
+        ensures state { ArePendingEnds factors.now text.now self.new.seen self.new }
         ensures next { MatchOption result
             (NoEndAfter list.now text.now self.old.seen)
             (λ found. IsNextEnd list.now text.now self.old.seen found.0) }
@@ -95,7 +94,8 @@ impl Pending {
                 *self = state;
                 return None;
             }
-            state = state.next_block(factors, text, tally);
+            let rest = state.but_first(state.count);
+            state = rest.next_block(factors, text, rest.seen, tally);
         }
     }
 
@@ -103,37 +103,52 @@ impl Pending {
     #[inline(always)]
     fn first_end(self, factors: &Factors, list: &ListIndex, text: &[u8]) -> Option<(usize, usize)>
         requires list { factors.now.literals ≡ list.now }
-        requires state { ArePendingEnds factors.now text.now self }
+        requires state { ArePendingEnds factors.now text.now self.seen self }
         ensures next { MatchOption result
             (NoEndUpTo list.now text.now self.seen (self.seen + self.count))
             (λ found. IsNextEnd list.now text.now self.seen found.0) }
         ensures within { IfSome result (λ found. found.0 ≤ self.seen + self.count) }
         ensures first { IfSome result (λ found. IsFirstEnding list.now text.now 0 found.0 found.1) }
     {
-        if self.hash_bits == 0 || self.count == 0 {
-            return None;
+        let mut back = 0;
+        let mut rest = self.hash_bits;
+        while rest != 0 {
+            let unmarked = rest.trailing_zeros() as usize;
+            back += unmarked;
+            if back >= self.count {
+                return None;
+            }
+            let end = self.seen + 1 + back;
+            if let Some(first) = list.next_ending(text, end, 0) {
+                return Some((end, first));
+            }
+            back += 1;
+            rest = rest >> unmarked >> 1;
         }
-        first_marked(list, text, self.seen, self.count, self.hash_bits)
+        None
     }
 
-    /// The pending ends of the next block, after a block in which nothing ends.
+    /// The pending ends after `from`, of the next block in which there may be some. The block is at `seen` or further on.
     #[inline(always)]
-    fn next_block(self, factors: &Factors, text: &[u8], tally: &mut Tally) -> Pending
-        requires state { ArePendingEnds factors.now text.now self }
-        requires left { self.seen + self.count < length text.now }
-        ensures state { ArePendingEnds factors.now text.now result }
-        ensures ahead { self.seen + self.count ≤ result.seen }
-        ensures some { self.seen + self.count < result.seen + result.count }
-        ensures none { NoEndUpTo factors.now.literals text.now (self.seen + self.count) result.seen }
+    fn next_block(self, factors: &Factors, text: &[u8], from: usize, tally: &mut Tally) -> Pending
+        requires state { ArePending factors.now text.now from self.seen (self.seen + 1) self.hash_bits }
+        requires ahead { self.seen ≤ from }
+        requires near { from ≤ self.seen + REACH }
+        requires inside { from ≤ length text.now }
+        ensures state { ArePendingEnds factors.now text.now result.seen result }
+        ensures ahead { from ≤ result.seen }
+        ensures some { from < length text.now → from < result.seen + result.count }
+        ensures none { NoEndUpTo factors.now.literals text.now from result.seen }
     {
-        let rest = self.but_first(self.count);
-        let (seen, hash_bits) = next_pending(factors, text, rest.seen, rest.hash_bits, tally);
-        tally.pending(hash_bits);
-        Pending {
+        let (seen, hash_bits) = next_pending(factors, text, self.seen, self.hash_bits, tally);
+        let block = Pending {
             seen,
             count: BLOCK.min(text.len() - seen),
             hash_bits,
-        }
+        };
+        let rest = block.but_first(from.saturating_sub(seen));
+        tally.pending(rest.hash_bits);
+        rest
     }
 }
 
@@ -158,7 +173,7 @@ impl<'a> Model for FactorEnds<'a> {
 
     ghost view = { λ w. record { literals = w.factors.now.literals; text = w.text.now; from = w.from } };
 
-    ghost invariant = { λ w. ArePendingEnds w.factors.now w.text.now w.state
+    ghost invariant = { λ w. ArePendingEnds w.factors.now w.text.now w.state.seen w.state
         × (w.from ≤ w.state.seen)
         × NoEndUpTo w.factors.now.literals w.text.now w.from w.state.seen };
 }
@@ -213,42 +228,4 @@ impl<'a> Ends for FactorEnds<'a> {
     ) -> Result<(), AllocError> {
         add_hits_at(self.factors.list(), self.text, end, first, at, out)
     }
-}
-
-/// The first of the `count` positions after `seen` at which some literal ends, with the first such literal. Only
-/// positions with a bit in `hash_bits` are tried.
-#[inline(never)]
-fn first_marked(
-    list: &ListIndex,
-    text: &[u8],
-    seen: usize,
-    count: usize,
-    hash_bits: u64,
-) -> Option<(usize, usize)>
-    requires few { count ≤ 64 }
-    requires inside { seen < length text.now }
-    requires marked { (back : ℕ) → back < count → HasEnd list.now text.now (seen + 1 + back) → bit_at hash_bits back ≡ 1 }
-    ensures next { MatchOption result
-        ((back : ℕ) → back < count → ¬ HasEnd list.now text.now (seen + 1 + back))
-        (λ found. IsNextEnd list.now text.now seen found.0) }
-    ensures within { IfSome result (λ found. found.0 ≤ seen + count) }
-    ensures first { IfSome result (λ found. IsFirstEnding list.now text.now 0 found.0 found.1) }
-{
-    let room = count.min(text.len() - seen);
-    let mut back = 0;
-    let mut rest = hash_bits;
-    while rest != 0 {
-        let unmarked = rest.trailing_zeros() as usize;
-        back += unmarked;
-        if back >= room {
-            return None;
-        }
-        let end = seen + 1 + back;
-        if let Some(first) = list.next_ending(text, end, 0) {
-            return Some((end, first));
-        }
-        back += 1;
-        rest = rest >> unmarked >> 1;
-    }
-    None
 }

@@ -16,7 +16,7 @@ use crate::marking::mark_all;
 use crate::prices::cost_of_masks;
 use crate::tuning::{MARK_COST, START_COST};
 use crate::widths::{WIDTH, least_width, widths_from};
-use list_index::{HASH_BITS, ListIndex, case_bits, hash_of, masked_key, suffix_key};
+use list_index::{HASH_BITS, ListIndex, case_bits, hash_of, last_word, masked_key, suffix_key};
 use lit_base::{Fold, LitList};
 use nib_mask::ByteMasks;
 use std::alloc::{AllocError, Global};
@@ -131,19 +131,6 @@ impl Factors {
         requires { at ≤ length text.now }
         ensures { AreHashBits self.now text.now at result }
     {
-        if at < WIDTH {
-            return hash_bits_near_prefix(&self.hash_bits, self.index.fold(), self.least, text, at);
-        }
-        self.hash_bits_after_prefix(text, at)
-    }
-
-    /// As `hash_bits_at`, for a position with at least four bytes before it.
-    #[inline(always)]
-    pub(crate) fn hash_bits_after_prefix(&self, text: &[u8], at: usize) -> u8
-        requires four { 4 ≤ at }
-        requires inside { at ≤ length text.now }
-        ensures { AreHashBits self.now text.now at result }
-    {
         hash_bits_of_widths(&self.hash_bits, self.index.fold(), self.least, text, at)
     }
 
@@ -168,35 +155,39 @@ fn masks_of(list: &LitList, offsets: &Vec<u8>, buckets: &mut Vec<u8>) -> ByteMas
     ByteMasks::of_prefixes(list, count, offsets, buckets)
 }
 
-/// The hash bits of a position with at least four bytes before it, by all widths from the least on.
+/// The hash bits of a position, by all widths from the least on.
 #[inline(always)]
 fn hash_bits_of_widths(hash_bits: &Vec<u8>, fold: Fold, least: usize, text: &[u8], at: usize) -> u8
     requires room { vec_len hash_bits.now ≡ 2 ^ HASH_BITS }
     requires some { 0 < least }
-    requires four { 4 ≤ at }
     requires inside { at ≤ length text.now }
-    ensures { (width back : ℕ) → least ≤ width → width ≤ WIDTH
+    ensures { (width back : ℕ) → least ≤ width → width ≤ WIDTH → width ≤ at
         → HasBit hash_bits.now.items (hash_of HASH_BITS (suffix_key fold text.now at width)) back → bit_at result back ≡ 1 }
 {
-    let word = last_four(text, at);
+    let word = word_before(text, at);
     let case_bits = case_bits(fold);
-    let long = hash_bits_of(hash_bits, word, WIDTH, case_bits);
-    if least >= WIDTH {
-        return long;
+    let mut found = 0;
+    for width in least..WIDTH {
+        let short = hash_bits_of(hash_bits, word, width, case_bits);
+        found |= short;
     }
-    let short = short_hash_bits(hash_bits, word, least, case_bits);
-    long | short
+    let long = hash_bits_of(hash_bits, word, WIDTH, case_bits);
+    found | long
 }
 
-/// What the four bytes before a position spell, after four zeros.
+/// What the eight bytes before a position spell. Zeros stand for bytes before the text.
 #[inline(always)]
-fn last_four(text: &[u8], at: usize) -> u64
-    requires four { 4 ≤ at }
-    requires inside { at ≤ length text.now }
-    ensures { result ≡ spelled (replicate 4 0 ++ slice_range text.now (at - 4) at) }
+fn word_before(text: &[u8], at: usize) -> u64
+    requires { at ≤ length text.now }
+    ensures { result ≡ spelled (replicate (8 - at) 0 ++ slice_range text.now (at - (8 - (8 - at))) at) }
 {
-    let four = u32::from_le_bytes([text[at - 4], text[at - 3], text[at - 2], text[at - 1]]);
-    u64::from(four) << 32
+    if at >= 8 {
+        return last_word(text, at);
+    }
+    if at == 0 {
+        return 0;
+    }
+    suffix_key(Fold::No, text, at, at)
 }
 
 /// The hash bits of the last `width` of eight bytes.
@@ -208,47 +199,4 @@ fn hash_bits_of(hash_bits: &Vec<u8>, word: u64, width: usize, case_bits: u64) ->
     ensures { result ≡ slice_index hash_bits.now.items (hash_of HASH_BITS (masked_key word width case_bits)) }
 {
     hash_bits[hash_of(HASH_BITS, masked_key(word, width, case_bits))]
-}
-
-/// The hash bits of the last bytes of a word, by all widths from the least to three.
-#[inline(always)]
-fn short_hash_bits(hash_bits: &Vec<u8>, word: u64, least: usize, case_bits: u64) -> u8
-    requires room { vec_len hash_bits.now ≡ 2 ^ HASH_BITS }
-    requires some { 0 < least }
-    ensures { (width back : ℕ) → least ≤ width → width < WIDTH
-        → HasBit hash_bits.now.items (hash_of HASH_BITS (masked_key word width case_bits)) back → bit_at result back ≡ 1 }
-{
-    let three = hash_bits_of(hash_bits, word, 3, case_bits);
-    if least > 2 {
-        return three;
-    }
-    let two = hash_bits_of(hash_bits, word, 2, case_bits);
-    if least > 1 {
-        return two | three;
-    }
-    let one = hash_bits_of(hash_bits, word, 1, case_bits);
-    one | (two | three)
-}
-
-/// The hash bits of a position with fewer bytes before it than a factor has: those of short literals.
-#[inline(never)]
-fn hash_bits_near_prefix(
-    hash_bits: &Vec<u8>,
-    fold: Fold,
-    least: usize,
-    text: &[u8],
-    at: usize,
-) -> u8
-    requires room { vec_len hash_bits.now ≡ 2 ^ HASH_BITS }
-    requires some { 0 < least }
-    requires inside { at ≤ length text.now }
-    requires near { at < WIDTH }
-    ensures { (width back : ℕ) → least ≤ width → width ≤ at
-        → HasBit hash_bits.now.items (hash_of HASH_BITS (suffix_key fold text.now at width)) back → bit_at result back ≡ 1 }
-{
-    let mut found = 0;
-    for width in least..at + 1 {
-        found |= hash_bits[hash_of(HASH_BITS, suffix_key(fold, text, at, width))];
-    }
-    found
 }

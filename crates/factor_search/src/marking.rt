@@ -1,9 +1,9 @@
 //! Sets the hash bits of literals, each by its factor.
-ghost use Rattle.std.specs.Prelude.{◌≡◌, ℕ, ◌+◌, ◌^◌, ◌<◌, length, slice_index, vec_len};
+ghost use Rattle.std.specs.Prelude.{◌≡◌, ◌+◌, ◌^◌, ◌<◌, length, vec_len};
 ghost use Rattle.list_index.specs.declared.suffixes.hash_bits.TheConstants.{HASH_BITS};
 ghost use Rattle.factor_search.specs.Factors.{AreMarkedByFactors};
 
-use crate::widths::width_of;
+use crate::widths::WIDTH;
 use list_index::{HASH_BITS, set_hash_bit, suffix_key};
 use lit_base::LitList;
 
@@ -17,7 +17,7 @@ pub(crate) fn mark_all(list: &LitList, offsets: &mut Vec<u8>, hash_bits: &mut Ve
     requires hash_bits { vec_len hash_bits.old ≡ 2 ^ HASH_BITS }
     ensures { AreMarkedByFactors list.now offsets.new.items hash_bits.new.items (length list.now.texts) }
 {
-    clear(hash_bits);
+    hash_bits.fill(0);
     for place in 0..list.len() {
         mark_one(list, place, offsets, hash_bits);
     }
@@ -30,20 +30,10 @@ fn mark_one(list: &LitList, place: usize, offsets: &mut Vec<u8>, hash_bits: &mut
     ensures { AreMarkedByFactors list.now offsets.new.items hash_bits.new.items (place + 1) }
 {
     let literal = list.get(place);
-    let width = width_of(list, place);
+    let width = WIDTH.min(literal.len());
     let room = (literal.len() - width).min(MOST_OFFSET);
     let offset = usize::from(offsets[place]).min(room);
     offsets[place] = offset as u8;
     let key = suffix_key(list.fold(), literal, literal.len() - offset, width);
     set_hash_bit(hash_bits, HASH_BITS, key, offset);
-}
-
-/// Clears all hash bits.
-fn clear(hash_bits: &mut Vec<u8>)
-    ensures len { vec_len hash_bits.new ≡ vec_len hash_bits.old }
-    ensures cleared { (number : ℕ) → slice_index hash_bits.new.items number ≡ 0 }
-{
-    for number in 0..hash_bits.len() {
-        hash_bits[number] = 0;
-    }
 }

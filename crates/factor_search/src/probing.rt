@@ -3,7 +3,7 @@
 //! A probe at a position returns hash bits. If bit k is set, a literal whose factor ends at the probe may end k
 //! positions further on, with k from 0 to 7. The bits of all probes of a block are combined in one word, without a
 //! branch on the result.
-ghost use Rattle.std.specs.Prelude.{ℕ, ◌+◌, ◌-◌, ◌<◌, ◌≤◌, length, min};
+ghost use Rattle.std.specs.Prelude.{ℕ, ◌+◌, ◌-◌, ◌<◌, ◌≤◌, length};
 ghost use Rattle.lit_base.specs.NextEnds.{NoEndUpTo};
 ghost use Rattle.factor_search.specs.PendingEnds.{ArePending, ArePassing};
 ghost use Rattle.factor_search.specs.declared.probing.TheConstants.{BLOCK};
@@ -21,97 +21,12 @@ const BLOCK_BITS: u64 = 0x00ff_ffff_ffff_ffff;
 /// Positions for which one step of the filter decides.
 const STEP: usize = 64;
 
-/// One byte less than a factor has. A position with fewer bytes before it is probed singly.
+/// The filter reads three bytes before a position. Where a text has fewer, each position is probed.
 const FIRST: usize = 3;
 
-/// Adds to the pending ends after `seen` those of the next `BLOCK` positions, or of the rest of the text if it is
-/// shorter.
-#[inline(always)]
-pub(crate) fn pending_after(
-    factors: &Factors,
-    text: &[u8],
-    seen: usize,
-    hash_bits: u64,
-    tally: &mut Tally,
-) -> u64
-    requires { seen ≤ length text.now }
-    ensures { (from : ℕ)
-        → ArePending factors.now text.now from seen (seen + 1) hash_bits
-        → ArePending factors.now text.now from seen (seen + min BLOCK (length text.now - seen) + 1) result }
-{
-    let left = text.len() - seen;
-    if seen < FIRST || left < STEP {
-        return probe_each(factors, text, seen, BLOCK.min(left), hash_bits);
-    }
-    probe_block(factors, text, seen, hash_bits, tally)
-}
-
-/// As `pending_after` for `count` positions near the start or the end of a text: each is probed singly.
-#[inline(never)]
-fn probe_each(factors: &Factors, text: &[u8], seen: usize, count: usize, hash_bits: u64) -> u64
-    requires few { count ≤ BLOCK }
-    requires inside { seen + count ≤ length text.now }
-    ensures { (from : ℕ)
-        → ArePending factors.now text.now from seen (seen + 1) hash_bits
-        → ArePending factors.now text.now from seen (seen + count + 1) result }
-{
-    factors.within_law();
-    let mut found = hash_bits;
-    let mut back = 0;
-    'places: while back < count {
-        let probed = factors.hash_bits_at(text, seen + 1 + back);
-        found |= (probed as u64) << back;
-        back += 1;
-    }
-    found
-}
-
-/// As `pending_after` for a whole block within the text, by probes where the masks pass.
-#[inline(always)]
-fn probe_block(
-    factors: &Factors,
-    text: &[u8],
-    seen: usize,
-    hash_bits: u64,
-    tally: &mut Tally,
-) -> u64
-    requires after { 3 ≤ seen }
-    requires inside { seen + 64 ≤ length text.now }
-    ensures { (from : ℕ)
-        → ArePending factors.now text.now from seen (seen + 1) hash_bits
-        → ArePending factors.now text.now from seen (seen + BLOCK + 1) result }
-{
-    factors.within_law();
-    let passing = BlockFilter::new(factors.masks()).passing(text, seen + 1);
-    tally.pass(passing);
-    probe_passing(factors, text, seen, hash_bits, passing)
-}
-
-/// The pending ends of a block, by probes at the positions in `passing`.
-#[inline(always)]
-fn probe_passing(factors: &Factors, text: &[u8], seen: usize, hash_bits: u64, passing: u64) -> u64
-    requires after { 3 ≤ seen }
-    requires inside { seen + 64 ≤ length text.now }
-    requires passing { ArePassing factors.now text.now seen passing }
-    ensures { (from : ℕ)
-        → ArePending factors.now text.now from seen (seen + 1) hash_bits
-        → ArePending factors.now text.now from seen (seen + BLOCK + 1) result }
-{
-    factors.within_law();
-    let mut found = hash_bits;
-    let mut rest = passing & BLOCK_BITS;
-    'places: while rest != 0 {
-        let (back, others) = split_lowest(rest);
-        let probed = factors.hash_bits_after_prefix(text, seen + 1 + back);
-        found |= (probed as u64) << back;
-        rest = others;
-    }
-    found
-}
-
 /// The next block from `seen` on in which an end may be pending, or the last block. Returns the position before the
-/// block and its pending ends, as `pending_after` gives them. No literal ends after `seen` and up to this position.
-/// While no end is pending, it skips blocks in which no position passes.
+/// block, and the ends that are pending after it by `hash_bits` and by probes of the block. While no end is pending, it
+/// skips blocks in which no position passes.
 #[inline(always)]
 pub(crate) fn next_pending(
     factors: &Factors,
@@ -123,13 +38,15 @@ pub(crate) fn next_pending(
     requires { seen ≤ length text.now }
     ensures ahead { seen ≤ result.0 }
     ensures inside { result.0 ≤ length text.now }
-    ensures none { ArePending factors.now text.now seen seen (seen + 1) hash_bits
-        → NoEndUpTo factors.now.literals text.now seen result.0 }
-    ensures pending { ArePending factors.now text.now seen seen (seen + 1) hash_bits
-        → ArePending factors.now text.now seen result.0 (result.0 + min BLOCK (length text.now - result.0) + 1) result.1 }
+    ensures none { (from : ℕ) → seen ≤ from
+        → ArePending factors.now text.now from seen (seen + 1) hash_bits
+        → NoEndUpTo factors.now.literals text.now from result.0 }
+    ensures pending { (from : ℕ)
+        → ArePending factors.now text.now from seen (seen + 1) hash_bits
+        → ArePending factors.now text.now from result.0 (result.0 + BLOCK + 1) result.1 }
 {
     if seen < FIRST {
-        return (seen, pending_after(factors, text, seen, hash_bits, tally));
+        return (seen, probe_each(factors, text, seen, hash_bits));
     }
     factors.within_law();
     let filter = BlockFilter::new(factors.masks());
@@ -142,6 +59,43 @@ pub(crate) fn next_pending(
         }
         at += STEP;
     }
-    let count = BLOCK.min(text.len() - at);
-    (at, probe_each(factors, text, at, count, hash_bits))
+    (at, probe_each(factors, text, at, hash_bits))
+}
+
+/// As `probe_passing` near the start or the end of a text: at each of the next positions.
+#[inline(never)]
+fn probe_each(factors: &Factors, text: &[u8], seen: usize, hash_bits: u64) -> u64
+    requires { seen ≤ length text.now }
+    ensures { (from : ℕ)
+        → ArePending factors.now text.now from seen (seen + 1) hash_bits
+        → ArePending factors.now text.now from seen (seen + BLOCK + 1) result }
+{
+    let count = BLOCK.min(text.len() - seen);
+    probe_passing(
+        factors,
+        text,
+        seen,
+        hash_bits,
+        BLOCK_BITS >> (BLOCK - count),
+    )
+}
+
+/// The pending ends of a block, by probes at the positions in `passing`.
+#[inline(always)]
+fn probe_passing(factors: &Factors, text: &[u8], seen: usize, hash_bits: u64, passing: u64) -> u64
+    requires { ArePassing factors.now text.now seen passing }
+    ensures { (from : ℕ)
+        → ArePending factors.now text.now from seen (seen + 1) hash_bits
+        → ArePending factors.now text.now from seen (seen + BLOCK + 1) result }
+{
+    factors.within_law();
+    let mut found = hash_bits;
+    let mut rest = passing & BLOCK_BITS;
+    'places: while rest != 0 {
+        let (back, others) = split_lowest(rest);
+        let probed = factors.hash_bits_at(text, seen + 1 + back);
+        found |= (probed as u64) << back;
+        rest = others;
+    }
+    found
 }

@@ -1,7 +1,5 @@
 //! The widths of factors.
-ghost use Rattle.std.specs.Prelude.{◌≡◌, ◌<◌, ◌≤◌, length};
-ghost use Rattle.factor_search.specs.Widths.{IsLeastWidth, width_at};
-ghost use Rattle.factor_search.specs.declared.widths.TheConstants.{WIDTH};
+ghost use Rattle.factor_search.specs.Widths.{IsLeastWidth};
 
 use lit_base::LitList;
 
@@ -23,14 +21,4 @@ pub(crate) fn least_width(list: &LitList) -> usize
 /// How many widths factors have, from the least on.
 pub(crate) fn widths_from(least: usize) -> usize {
     (WIDTH + 1).saturating_sub(least)
-}
-
-/// How many bytes the factor of a literal has.
-pub(crate) fn width_of(list: &LitList, place: usize) -> usize
-    requires { place < length list.now.texts }
-    ensures value { result ≡ width_at list.now place }
-    ensures some { 0 < result }
-    ensures narrow { result ≤ WIDTH }
-{
-    list.get(place).len().min(WIDTH)
 }

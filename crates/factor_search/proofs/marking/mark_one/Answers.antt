@@ -1,5 +1,5 @@
 -- The factor of the literal has the one new bit.
-use Rattle.std.proofs.Common.{◌≡◌, ℕ, ◌-◌, ◌<◌, List, [], length, set, slice_index, sym, ap, ◌∙◌, subst, arith, below_more, get_or-set_other, get_or-set_same, length-set}
+use Rattle.std.proofs.Common.{◌≡◌, ℕ, ◌-◌, ◌<◌, List, [], length, min, set, slice_index, sym, ap, ◌∙◌, subst, arith, below_more, get_or-set_other, get_or-set_same, length-set}
 use Rattle.std.proofs.lemmas.List.{get_or_read}
 use Rattle.lit_base.specs.Literals.{literal_at}
 use Rattle.list_index.specs.HashBits.{HasBit}
@@ -23,12 +23,12 @@ returns c =
     let stays : (other : ℕ) → other < place → slice_index before other ≡ slice_index after other =
     λ other sooner. sym (get_or-set_other before place other offset 0 (λ same. omega (arith, same, sooner))) in
     let key : c.suffix_key-key.result ≡ factor_key l place (slice_index after place) =
-    c.suffix_key-key.ensures ∙ (λ i. suffix_key (c.fold.ensures i) (here i) (length (here i) - new i) (c.width_of-width.ensures.value i)) in
+    c.suffix_key-key.ensures ∙ (λ i. suffix_key (c.fold.ensures i) (here i) (length (here i) - new i) ((c.min-width.ensures ∙ ap (λ (t : List ℕ). min 4 (length t)) here) i)) in
     record {
       offsets_len = omega (arith, length-set before place offset, was.offsets_len);
       factors = below_more _ _
           (λ other sooner. subst (IsFactor l other) (stays other sooner) (was.factors other sooner))
-          (subst (IsFactor l place) new (record { near = omega (arith, c.min-offset.ensures); wide = omega (arith, ap length here, c.min-offset.ensures, c.min-room.ensures, c.width_of-width.ensures.value) }));
+          (subst (IsFactor l place) new (record { near = omega (arith, c.min-offset.ensures); within = omega (arith, ap length here, c.min-offset.ensures, c.min-room.ensures, c.min-width.ensures, c.get-literal.ensures.nonempty); wide = omega (arith, ap length here, c.min-offset.ensures, c.min-room.ensures, c.min-width.ensures) }));
       bits = more_key_bits HASH_BITS (λ p. factor_key l p (slice_index after p)) (slice_index after) place c.suffix_key-key.result offset table c.set_hash_bit.new.table.items
           (record {
             room = was.bits.room;

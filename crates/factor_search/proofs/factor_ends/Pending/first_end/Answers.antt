@@ -1,29 +1,63 @@
--- An end without a bit is none.
-use Rattle.std.proofs.Common.{◌≡◌, ℕ, ◌+◌, ◌-◌, ap, sym, ◌∙◌, subst, arith}
+-- Up to the lowest remaining bit no literal ends.
+use Rattle.std.proofs.Common.{◌≡◌, ◌+◌, ◌-◌, ap, sym, ◌∙◌, subst, arith, w64}
 use Rattle.std.specs.Int.{bit_at}
-use Rattle.std.proofs.lemmas.Nat.Bits.{bit_at-zero}
+use Rattle.std.proofs.lemmas.Nat.Bits.{bit_at-trailing_zeros, bit_at-zero}
 use Rattle.lit_base.specs.Literals.{Literals}
 use Rattle.lit_base.specs.Occurrences.{HasEnd}
-use Rattle.factor_search.proofs.PendingSteps.{pending_bit, next_within}
+use Rattle.factor_search.proofs.MarkSteps.{marked_after, marked_first}
 use Rattle.factor_search.proofs.factor_ends.Pending.first_end.Goals as goal
-use Rattle.factor_search.proofs.factor_ends.Pending.first_end.Goals.{then-self-eq0-via-then-self-eq0, then-self-eq0-via-else-self-eq0+then-self-eq0-2}
 
-pub returns-then-self-eq0-clause-next : goal.returns-then-self-eq0-clause-next
-returns-then-self-eq0-clause-next c = λ end after within here. elim c.then-self-eq0.branch [
-  | then-self-eq0-via-then-self-eq0 w ↦
-      let here : HasEnd c.args.factors.now.literals c.args.text.now end = subst (λ (l : Literals). HasEnd l c.args.text.now end) (sym c.requires.list) here in
-      let set = pending_bit c.args.factors.now c.args.text.now c.args.self c.requires.state end after within here in
-      absurd (omega (arith, ap (λ m. bit_at m (end - (c.args.self.seen + 1))) w.if-self-eq0.true, set, bit_at-zero (end - (c.args.self.seen + 1))))
-  | then-self-eq0-via-else-self-eq0+then-self-eq0-2 w ↦ absurd (omega (arith, w.if-self-eq0-2.true, after, within))
-]
+pub loop-rest-init : goal.loop-rest-init
+loop-rest-init c = record {
+  near = omega arith;
+  marked = λ other near here.
+      let there = subst (λ (l : Literals). HasEnd l c.args.text.now (c.args.self.seen + 1 + other)) (sym c.requires.list) here in
+      let bit : other - 0 ≡ c.args.self.seen + 1 + other - (c.args.self.seen + 1) = omega arith in
+      (omega arith, ap (bit_at c.args.self.hash_bits) bit ∙ c.requires.state.pending there.0 (c.args.self.seen + 1 + other) there.1 (omega arith) (omega arith) (omega (arith, near)));
+}
 
-pub first_marked-requires-clause-marked : goal.first_marked-requires-clause-marked
-first_marked-requires-clause-marked c = λ back near here.
-    let end : ℕ = c.args.self.seen + 1 + back in
-    let there : HasEnd c.args.factors.now.literals c.args.text.now end = subst (λ (l : Literals). HasEnd l c.args.text.now end) (sym c.requires.list) here in
-    let place : back ≡ end - (c.args.self.seen + 1) = omega arith in
-    ap (bit_at c.args.self.hash_bits) place ∙ pending_bit c.args.factors.now c.args.text.now c.args.self c.requires.state end (omega arith) (omega (arith, near)) there
+pub overflow_add-back : goal.overflow_add-back
+overflow_add-back c =
+    let lowest = bit_at-trailing_zeros w64 c.loop-rest.rest (omega (arith, c.loop-rest-test.true)) c.loop-rest.auto.rest-fits.fits in
+    omega (arith, lowest.0, c.loop-rest.invariant.near, c.requires.state.few)
+
+pub returns-then-back-self-clause-next : goal.returns-then-back-self-clause-next
+returns-then-back-self-clause-next c = λ end further within here.
+    let other = end - (c.args.self.seen + 1) in
+    let place : end ≡ c.args.self.seen + 1 + other = omega (arith, further) in
+    let lowest = bit_at-trailing_zeros w64 c.loop-rest.rest (omega (arith, c.loop-rest-test.true)) c.loop-rest.auto.rest-fits.fits in
+    let first = marked_first c.args.list.now c.args.text.now c.args.self.seen c.args.self.count c.loop-rest.back c.loop-rest.rest c.loop-rest.invariant.marked _ lowest.2 other
+    (omega (arith, further, within)) (subst (HasEnd c.args.list.now c.args.text.now) place here) in
+    absurd (omega (arith, first, further, within, c.if-back-self.true))
+
+pub returns-in-Some-clause-next : goal.returns-in-Some-clause-next
+returns-in-Some-clause-next c =
+    let seen = c.args.self.seen in
+    let lowest = bit_at-trailing_zeros w64 c.loop-rest.rest (omega (arith, c.loop-rest-test.true)) c.loop-rest.auto.rest-fits.fits in
+    let occurs = c.in-Some.ensures.first.occurs in
+    record {
+      after = omega arith;
+      within = occurs.ends;
+      here = (c.in-Some.first, occurs);
+      first = λ other after sooner there.
+          let place : other ≡ seen + 1 + (other - (seen + 1)) = omega (arith, after) in
+          let first = marked_first c.args.list.now c.args.text.now seen c.args.self.count c.loop-rest.back c.loop-rest.rest c.loop-rest.invariant.marked _ lowest.2 (other - (seen + 1))
+          (omega (arith, after, sooner, c.if-back-self.false)) (subst (HasEnd c.args.list.now c.args.text.now) place there) in
+          absurd (omega (arith, first, after, sooner));
+    }
+
+pub loop-rest-preserved : goal.loop-rest-preserved
+loop-rest-preserved c =
+    let lowest = bit_at-trailing_zeros w64 c.loop-rest.rest (omega (arith, c.loop-rest-test.true)) c.loop-rest.auto.rest-fits.fits in
+    record {
+      near = omega (arith, c.if-back-self.false);
+      marked = marked_after c.args.list.now c.args.text.now c.args.self.seen c.args.self.count c.loop-rest.back c.loop-rest.rest c.loop-rest.invariant.marked _ lowest.2
+          (λ there. c.in_default.ensures.first there.0 (omega arith) there.1);
+    }
 
 pub returns-clause-next : goal.returns-clause-next
-returns-clause-next c =
-    next_within c.args.list.now c.args.text.now c.args.self.seen c.args.self.count c.first_marked.result c.first_marked.ensures.next
+returns-clause-next c = λ end further within here.
+    let other = end - (c.args.self.seen + 1) in
+    let place : end ≡ c.args.self.seen + 1 + other = omega (arith, further) in
+    let left = c.loop-rest.invariant.marked other (omega (arith, further, within)) (subst (HasEnd c.args.list.now c.args.text.now) place here) in
+    absurd (omega (arith, sym (ap (λ m. bit_at m (other - c.loop-rest.back)) c.loop-rest-test.false) ∙ left.1, bit_at-zero (other - c.loop-rest.back)))

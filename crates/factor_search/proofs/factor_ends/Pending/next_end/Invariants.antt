@@ -6,7 +6,7 @@ use Rattle.factor_search.proofs.factor_ends.Pending.next_end.Given as goal
 -- nothing ends before the block that is reached
 abbrev pub invariant-blocks-2 : goal.invariant-blocks-2
 invariant-blocks-2 l = record {
-  state : ArePendingEnds l.factors l.text l.state;
+  state : ArePendingEnds l.factors l.text l.state.seen l.state;
   ahead : l.fn.self.seen ≤ l.state.seen;
   none : NoEndUpTo l.list l.text l.fn.self.seen l.state.seen;
 }

@@ -6,9 +6,9 @@ use Rattle.factor_search.specs.Factors.{AreHashBits, Factored}
 use Rattle.factor_search.proofs.FactorLemmas.{hash_bits_are}
 use Rattle.factor_search.proofs.factors.Factors.hash_bits_at.Goals as goal
 
-pub returns-then-at-lt-WIDTH : goal.returns-then-at-lt-WIDTH
-returns-then-at-lt-WIDTH c =
+pub returns : goal.returns
+returns c =
     let w : Factored = record { literals = c.self.inside.index.value; offsets = c.self.inside.offsets.items } in
-    subst (λ (v : Factored). AreHashBits v c.args.text.now c.args.at c.hash_bits_near_prefix.result) c.self.view_is
-    (hash_bits_are w c.fold.result c.self.inside.least c.self.inside.hash_bits.items c.args.text.now c.args.at c.hash_bits_near_prefix.result (c.fold.ensures ∙ ap (λ (l : Literals). l.folding) c.deref.ensures) c.self.invariant.0 c.self.invariant.1 (are_bytes c.args.text.now c.type_inv.text)
-    (λ width back enough most begins. c.hash_bits_near_prefix.ensures width back enough begins))
+    subst (λ (v : Factored). AreHashBits v c.args.text.now c.args.at c.hash_bits_of_widths.result) c.self.view_is
+    (hash_bits_are w c.fold.result c.self.inside.least c.self.inside.hash_bits.items c.args.text.now c.args.at c.hash_bits_of_widths.result (c.fold.ensures ∙ ap (λ (l : Literals). l.folding) c.deref.ensures) c.self.invariant.0 c.self.invariant.1 (are_bytes c.args.text.now c.type_inv.text)
+    c.hash_bits_of_widths.ensures)

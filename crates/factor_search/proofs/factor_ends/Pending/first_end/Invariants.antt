@@ -1,14 +1,14 @@
 use Rattle.std.proofs.Common.{◌≡◌, ℕ, ◌+◌, ◌-◌, ◌<◌, ◌≤◌}
 use Rattle.std.specs.Int.{bit_at}
 use Rattle.lit_base.specs.Occurrences.{HasEnd}
-use Rattle.factor_search.proofs.factor_ends.first_marked.Given as goal
+use Rattle.factor_search.proofs.factor_ends.Pending.first_end.Given as goal
 
 -- where a literal ends, a bit remains, and no remaining bit stands for a passed position
 abbrev pub invariant-loop-rest : goal.invariant-loop-rest
 invariant-loop-rest l = record {
-  near : l.back ≤ l.count;
-  marked : (other : ℕ) → other < l.count → HasEnd l.list l.text (l.seen + 1 + other) → (l.back ≤ other) × (bit_at l.rest (other - l.back) ≡ 1);
+  near : l.back ≤ l.self.count;
+  marked : (other : ℕ) → other < l.self.count → HasEnd l.list l.text (l.self.seen + 1 + other) → (l.back ≤ other) × (bit_at l.rest (other - l.back) ≡ 1);
 }
 
 abbrev pub decreases-loop-rest : goal.decreases-loop-rest
-decreases-loop-rest l = l.count - l.back
+decreases-loop-rest l = l.self.count - l.back
