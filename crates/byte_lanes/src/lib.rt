@@ -2,14 +2,13 @@
 //! literals, 64 or 128 at a time, by the tables of a filter or by bytes. It knows no literals. `filter` and
 //! `any_set` work on slices; no search calls them.
 //!
-//! Theorems: `skip_unmarked` passes no position that a test lets pass. `BlockFilter` returns the bits of the 64
+//! Theorems: `skip_unmarked` passes no position that a test lets pass. `Nibbles` marks exactly those of 64
 //! positions that masks let pass. `filter` writes the filter number of each position, for each length.
 #![tactic(auto)]
 
 mod all_of;
 mod any_of;
 mod bits;
-mod block_filter;
 mod end_test;
 mod entries;
 mod kernels;
@@ -25,7 +24,6 @@ mod wide_lanes;
 pub use all_of::AllOf;
 pub use any_of::AnyOf;
 pub use bits::{below_bit, from_bit, split_lowest};
-pub use block_filter::BlockFilter;
 pub use end_test::EndTest;
 pub use kernels::{any_set, filter};
 pub use lanes::{any_lane_of, both, equal_bits, load, load_64, value_where, with_bits};

@@ -9,7 +9,7 @@ ghost use Rattle.factor_search.specs.PendingEnds.{ArePending, ArePassing};
 ghost use Rattle.factor_search.specs.declared.probing.TheConstants.{BLOCK};
 
 use crate::factors::Factors;
-use lane_filter::{BlockFilter, split_lowest};
+use lane_filter::{EndTest, Nibbles, split_lowest};
 use text_ends::Tally;
 
 /// Positions in a block. A probe at the last of them has seven more bits, for which a word has room.
@@ -49,10 +49,10 @@ pub(crate) fn next_pending(
         return (seen, probe_each(factors, text, seen, hash_bits));
     }
     factors.within_law();
-    let filter = BlockFilter::new(factors.masks());
+    let filter = Nibbles::new(factors.masks());
     let mut at = seen;
     'blocks: while text.len() - at >= STEP {
-        let passing = filter.passing(text, at + 1);
+        let passing = filter.marks(text, at + 1);
         if passing | hash_bits != 0 {
             tally.pass(passing);
             return (at, probe_passing(factors, text, at, hash_bits, passing));

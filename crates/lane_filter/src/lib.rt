@@ -12,7 +12,7 @@ mod prefilter;
 mod rare_byte;
 mod triple;
 
-pub use byte_lanes::{AllOf, AnyOf, BlockFilter, any_set, filter, from_bit, split_lowest};
+pub use byte_lanes::{AllOf, AnyOf, EndTest, Nibbles, any_set, filter, from_bit, split_lowest};
 pub use candidates::Candidates;
 pub use exact::{ByteTest, Exact};
 pub use pair::{BytePair, pair_of};
