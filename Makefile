@@ -71,7 +71,7 @@ sweep:
 	python3 tests/refused_crates.py $(TESTED)
 	python3 tests/refused_calls.py
 
-# The gate tries the wrong bodies that note_outputs most, in crates/*/must-fail/; this tries those of mutants/ too, on a copy.
+# The gate tries the wrong bodies that tell most, in crates/*/must-fail/; this tries those of mutants/ too, on a copy.
 mutants:
 	python3 tools/mutants.py
 

@@ -22,7 +22,7 @@ import subprocess
 import sys
 import tempfile
 
-from learned import drawn
+from tuned import drawn
 from lists import FEWER, COUNTS, make_texts, pools
 from programs import HERE, MB, machine, run
 from scanning import scan
@@ -37,7 +37,7 @@ GROUPS = (("1 to 3 rare", "rare", 1, 3), ("5 and 10 rare", "rare", 5, 10), ("30 
           ("some short", "rare, some short", 10, 1000), ("1 to 3 frequent", "frequent", 1, 3),
           ("5 and 10 frequent", "frequent", 5, 10), ("30 to 1,000 frequent", "frequent", 30, 1000))
 LITGREP, TEXT, PIECES = "litgrep", "scans of a text in memory", "scans of pieces of 1,000 bytes"
-MODES = {TEXT: "learned", PIECES: "learned-stream:1000"}
+MODES = {TEXT: "tuned", PIECES: "tuned-stream:1000"}
 # A plan for sixteen buckets in place of what is tuned needs no build of its own.
 SIXTEEN = "tuning, but by sixteen buckets"
 PLAN_MODES = {TEXT: "all", PIECES: "stream:1000"}

@@ -1,15 +1,15 @@
 """What holds a row of a table in which another program is ahead, in a word or two: CHANGES.md says what was tried.
 
-    python3 bench/held.py        says it anew in the tables PROGRAMS.md, LISTS.md, LEARNED.md and SCANNING.md
+    python3 bench/held.py        says it anew in the tables PROGRAMS.md, LISTS.md, TUNED.md and SCANNING.md
 """
 import os
 import re
 
 HERE = os.path.dirname(os.path.abspath(__file__))
-TABLES = ("PROGRAMS.md", "LISTS.md", "LEARNED.md", "SCANNING.md")
+TABLES = ("PROGRAMS.md", "LISTS.md", "TUNED.md", "SCANNING.md")
 HEAD = "held by"
 NAMES = ("search", "text and list", "text and literals")    # the heads of the names of rows
-RATIOS = re.compile(r"ahead|/ learned$|/ Hyperscan block$")
+RATIOS = re.compile(r"ahead|/ tuned$|/ Hyperscan block$")
 
 # The first of these that a row's name has.
 HELD = tuple((re.compile(words), reason) for words, reason in (

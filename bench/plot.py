@@ -1,6 +1,6 @@
 """A plot of ratios as bars, written as SVG: how far ahead, on a scale of powers of two, and which side is the better one.
 
-    python3 bench/plot.py        draws the plots of the tables PROGRAMS.md, LISTS.md, LEARNED.md and SCANNING.md again
+    python3 bench/plot.py        draws the plots of the tables PROGRAMS.md, LISTS.md, TUNED.md and SCANNING.md again
 """
 import itertools
 import math
@@ -103,14 +103,14 @@ def plot_of_lists():
                   builds, ratios_of("LISTS.md", is_ratio, "## By kind"))
 
 
-def plot_of_learned():
-    """The plot of the kinds of lists in LEARNED.md, texts at hand, for the builds that were measured."""
-    with open(os.path.join(HERE, "LEARNED.md")) as file:
+def plot_of_tuned():
+    """The plot of the kinds of lists in TUNED.md, texts at hand, for the builds that were measured."""
+    with open(os.path.join(HERE, "TUNED.md")) as file:
         titles = [line for line in file.read().splitlines() if line.startswith("## By kind, at hand")]
-    is_ratio = lambda head: head == "Hyperscan / learned"
-    tables = [ratios_of("LEARNED.md", is_ratio, title) for title in titles]
+    is_ratio = lambda head: head == "Hyperscan / tuned"
+    tables = [ratios_of("TUNED.md", is_ratio, title) for title in titles]
     rows = [(same[0][0], [ratio for _, ratios in same for ratio in ratios]) for same in zip(*tables)]
-    return as_svg("time of Hyperscan's block mode / that of the scan that learns, medians over lists", "ours", "Hyperscan",
+    return as_svg("time of Hyperscan's block mode / that of the scan that tunes itself, medians over lists", "ours", "Hyperscan",
                   [title.rsplit(", ", 1)[-1] for title in titles], rows)
 
 
@@ -124,8 +124,8 @@ def main():
         out.write(programs_plot(levels, [row for row in programs if row[0] in SUMMARY]))
     with open(os.path.join(HERE, "lists.svg"), "w") as out:
         out.write(plot_of_lists())
-    with open(os.path.join(HERE, "learned.svg"), "w") as out:
-        out.write(plot_of_learned())
+    with open(os.path.join(HERE, "tuned.svg"), "w") as out:
+        out.write(plot_of_tuned())
     with open(os.path.join(HERE, "scanning.svg"), "w") as out:
         out.write(scanning_plot(levels, scanning))
 

@@ -16,14 +16,14 @@ import subprocess
 import sys
 import tempfile
 
-from learned import SCANS, drawn, ratio
+from tuned import SCANS, drawn, ratio
 from lists import LONG_POOL, LONG_SHORT, gathered, make_texts, pools
 from programs import HERE, MB, machine, run
 from scanning import scan
 
 COUNTS = (1000, 2000, 4096)
 KINDS = tuple((kind, COUNTS) for kind in ("rare", "rare, some short", "frequent"))
-MODES = {"plan": "all", "tuned": "learned", "stream": "learned-stream"}
+MODES = {"plan": "all", "tuned": "tuned", "stream": "tuned-stream"}
 BUCKETS = ("8", "16")
 
 

@@ -1,5 +1,5 @@
 #!/usr/bin/env python3
-"""Prints the rows of README.md that sum up LISTS.md and LEARNED.md: for each kind of row the median, then the worst.
+"""Prints the rows of README.md that sum up LISTS.md and TUNED.md: for each kind of row the median, then the worst.
 
     python3 bench/summary.py [--write]
 
@@ -85,7 +85,7 @@ def lines():
     """All rows that sum up, in the order of README.md."""
     lists = tables("LISTS.md")["Each search"][1:]
     ahead = ["%d" % sum(float(row[place]) > 1 for row in lists) for place in (6, 8)]
-    return [*of_lists(lists), *of_scans(tables("LEARNED.md"))], "in %s at v2 and in %s at v3, of %d searches" % (*ahead, len(lists))
+    return [*of_lists(lists), *of_scans(tables("TUNED.md"))], "in %s at v2 and in %s at v3, of %d searches" % (*ahead, len(lists))
 
 
 def label(line):

@@ -115,7 +115,7 @@ class Plan:
         """Makes the handle by a call, and takes what the plan has."""
         self._library, self._lock = library(), threading.Lock()
         # One call at a time uses a handle. `_shared` serves shares alone, under the lock; each search takes a handle of its
-        # own, which keeps what the search learned, and gives it back to `_idle`.
+        # own, which keeps the tuning of the search, and gives it back to `_idle`.
         self._shared, self._is_open = Handle(), True
         self._idle: List[_Search] = []
         fault_at, info = ctypes.c_size_t(), Info()

@@ -1,4 +1,4 @@
-//! How long a scan takes: `bench_scan TEXT LITERALS all|learned|stream|learned-stream|WORKERS TURNS [8|16]` reads both files
+//! How long a scan takes: `bench_scan TEXT LITERALS all|tuned|stream|tuned-stream|WORKERS TURNS [8|16]` reads both files
 //! and prints the median seconds of a scan and the number of hits. A number of workers from 1 to 16 share the text. A
 //! stream comes in pieces of 64 KiB, or as `stream:1000` in pieces of so many bytes. The plan has eight buckets unless the
 //! last word is 16. It prints nothing without arguments; `bench/README.md` says what it is measured beside.
@@ -23,12 +23,12 @@ const PIECE: usize = 65536;
 enum Mode {
     /// In one call.
     Whole,
-    /// In one call that learns from the text.
-    Learned,
+    /// In one call, by a search that tunes itself to the text.
+    Tuned,
     /// As a stream, in pieces of this many bytes.
     Pieces(usize),
-    /// As a stream, in pieces that are learned from.
-    LearnedPieces(usize),
+    /// As a stream in pieces, by a search that tunes itself to them.
+    TunedPieces(usize),
     /// By this many workers; each scans a part.
     Parts(usize),
 }
@@ -61,9 +61,9 @@ fn mode_of(word: &str) -> Result<Mode> {
     ensure!(size > 0, "no byte in a piece");
     Ok(match name {
         "all" => Mode::Whole,
-        "learned" => Mode::Learned,
+        "tuned" => Mode::Tuned,
         "stream" => Mode::Pieces(size),
-        "learned-stream" => Mode::LearnedPieces(size),
+        "tuned-stream" => Mode::TunedPieces(size),
         workers => Mode::Parts(workers.parse::<usize>()?),
     })
 }
@@ -121,9 +121,9 @@ fn scan<R: Threads + Sync>(
 ) -> Result<usize> {
     match mode {
         Mode::Whole => Ok(scan_all(alloc, compiled, text)?.len()),
-        Mode::Learned => scan_learning(alloc, compiled, text),
+        Mode::Tuned => scan_tuned(alloc, compiled, text),
         Mode::Pieces(size) => scan_pieces(alloc, compiled, text, size),
-        Mode::LearnedPieces(size) => scan_pieces_learning(alloc, compiled, text, size),
+        Mode::TunedPieces(size) => scan_pieces_tuned(alloc, compiled, text, size),
         Mode::Parts(workers) => {
             ensure!((1..=MAX_WORKERS).contains(&workers), "1 to 16 workers");
             Ok(scan_parts(rt, alloc, &NoGate, compiled, text, workers)?.len())
@@ -131,8 +131,8 @@ fn scan<R: Threads + Sync>(
     }
 }
 
-/// How many hits a text has, by what learns from it if the list has literals enough.
-fn scan_learning(alloc: Global, compiled: &Compiled, text: &[u8]) -> Result<usize> {
+/// How many hits a text has, by a finder that tunes itself to it if the list has literals enough.
+fn scan_tuned(alloc: Global, compiled: &Compiled, text: &[u8]) -> Result<usize> {
     let mut finder = EndFinder::new_unless_few(alloc, compiled)?;
     Ok(scan_after(&mut finder, alloc, compiled, text, 0)?.len())
 }
@@ -150,8 +150,8 @@ fn scan_pieces(alloc: Global, compiled: &Compiled, text: &[u8], size: usize) -> 
     Ok(count)
 }
 
-/// The same by what learns from the pieces if the list has literals enough.
-fn scan_pieces_learning(
+/// The same in pieces, to which the finder tunes itself.
+fn scan_pieces_tuned(
     alloc: Global,
     compiled: &Compiled,
     text: &[u8],

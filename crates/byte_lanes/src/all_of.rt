@@ -48,7 +48,7 @@ impl<A: EndTest, B: EndTest> EndTest for AllOf<A, B> {
     }
 
     #[inline(always)]
-    fn marks(&self, text: &[u8], first: usize) -> u64 {
-        self.one.marks(text, first) & self.other.marks(text, first)
+    fn passing(&self, text: &[u8], first: usize) -> u64 {
+        self.one.passing(text, first) & self.other.passing(text, first)
     }
 }

@@ -42,8 +42,8 @@ impl<A: EndTest, B: EndTest> EndTest for AnyOf<A, B> {
     }
 
     #[inline(always)]
-    fn may_mark(&self, text: &[u8], first: usize) -> bool {
-        self.one.may_mark(text, first) || self.other.may_mark(text, first)
+    fn may_pass(&self, text: &[u8], first: usize) -> bool {
+        self.one.may_pass(text, first) || self.other.may_pass(text, first)
     }
 
     #[inline(always)]
@@ -52,7 +52,7 @@ impl<A: EndTest, B: EndTest> EndTest for AnyOf<A, B> {
     }
 
     #[inline(always)]
-    fn marks(&self, text: &[u8], first: usize) -> u64 {
-        self.one.marks(text, first) | self.other.marks(text, first)
+    fn passing(&self, text: &[u8], first: usize) -> u64 {
+        self.one.passing(text, first) | self.other.passing(text, first)
     }
 }

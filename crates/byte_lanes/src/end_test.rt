@@ -42,7 +42,7 @@ pub trait EndTest {
 
     /// Whether an occurrence may end at one of 128 positions. It returns false only if none can.
     #[inline(always)]
-    fn may_mark(&self, text: &[u8], first: usize) -> bool
+    fn may_pass(&self, text: &[u8], first: usize) -> bool
         requires after { reaches self.now ≤ first }
         requires within { first + 127 ≤ length text.now }
         ensures { (k : ℕ) → k < 128 → candidate self.now text.now (first + k) → IsTrue result }
@@ -55,19 +55,19 @@ pub trait EndTest {
         )
     }
 
-    /// As `may_mark`, by only one of up to three bytes of each literal: quicker, but true more often. Both are the same
-    /// if `may_mark` compares one byte or none.
+    /// As `may_pass`, by only one of up to three bytes of each literal: quicker, but true more often. Both are the same
+    /// if `may_pass` compares one byte or none.
     #[inline(always)]
     fn may_hold(&self, turn: Turn, text: &[u8], first: usize) -> bool
         requires after { reaches self.now ≤ first }
         requires within { first + 127 ≤ length text.now }
         ensures { (k : ℕ) → k < 128 → candidate self.now text.now (first + k) → IsTrue result }
     {
-        self.may_mark(text, first)
+        self.may_pass(text, first)
     }
 
     /// The positions among 64 at which an occurrence may end.
-    fn marks(&self, text: &[u8], first: usize) -> u64
+    fn passing(&self, text: &[u8], first: usize) -> u64
         requires after { reaches self.now ≤ first }
         requires within { first + 63 ≤ length text.now }
         ensures { IsMaskOf (candidate self.now text.now) first 64 result };

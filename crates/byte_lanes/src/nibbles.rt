@@ -47,7 +47,7 @@ impl<'a> EndTest for Nibbles<'a> {
     fn local_law(&self, text: &[u8], longer: &[u8]) {}
 
     #[inline(always)]
-    fn marks(&self, text: &[u8], first: usize) -> u64 {
-        self.tables.marks(text, first - 3)
+    fn passing(&self, text: &[u8], first: usize) -> u64 {
+        self.tables.passing(text, first - 3)
     }
 }

@@ -25,7 +25,7 @@ pub fn skip_unmarked<T: EndTest>(test: &T, text: &[u8], from: usize) -> usize
     };
     let seen = skip_blocks(test, None, text, from, near);
     // Called once more so that the compiler drops it for a test that always returns true, like the test by tables.
-    if near - seen >= BLOCK || text.len() - seen < BLOCK || test.may_mark(text, seen + 1) {
+    if near - seen >= BLOCK || text.len() - seen < BLOCK || test.may_pass(text, seen + 1) {
         return seen;
     }
     skip_far(test, text, seen)
@@ -92,6 +92,6 @@ fn may_end<T: EndTest>(test: &T, turn: Option<Turn>, text: &[u8], first: usize) 
 {
     match turn {
         Some(turn) => test.may_hold(turn, text, first),
-        None => test.may_mark(text, first),
+        None => test.may_pass(text, first),
     }
 }

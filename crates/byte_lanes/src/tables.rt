@@ -66,7 +66,7 @@ impl Tables {
 
     /// The positions among 64 at which the filter byte of the three bytes from there on is not zero.
     #[inline(always)]
-    pub(crate) fn marks(&self, text: &[u8], at: usize) -> u64
+    pub(crate) fn passing(&self, text: &[u8], at: usize) -> u64
         requires { at + 66 ≤ length text.now }
         ensures { (masks : Masks) → AreTablesOf masks self.now → IsMaskOf (IsMarked masks text.now) at 64 result }
     {

@@ -66,7 +66,7 @@ impl Pending {
     /// Returns the next end after `seen`, with the first literal that ends there, or `None`. Moves `seen` to this end.
     /// Adds the pending ends of each new block to `tally`. It takes no memory.
     #[inline(never)]
-    pub fn next_end(
+    pub fn next_verified(
         &mut self,
         factors: &Factors,
         list: &ListIndex,
@@ -213,7 +213,7 @@ impl<'a> Ends for FactorEnds<'a> {
         let list = self.factors.list();
         let found = self
             .state
-            .next_end(self.factors, list, self.text, &mut self.tally);
+            .next_verified(self.factors, list, self.text, &mut self.tally);
         self.from = self.state.seen;
         found
     }

@@ -97,7 +97,7 @@ impl Factors {
     /// Chooses factors that are rare in a sample of the coming text. Returns the estimate of a search by them, in
     /// tenths of a nanosecond for 1,024 bytes with ends at this rate, without the work at the ends themselves. Earlier
     /// samples count half as much.
-    pub fn learn(&mut self, sample: &[u8], rate: EndRate) -> usize
+    pub fn tune(&mut self, sample: &[u8], rate: EndRate) -> usize
         ensures { self.new.literals ≡ self.old.literals }
     {
         let list = self.index.list();

@@ -52,7 +52,7 @@ pub(crate) fn next_pending(
     let filter = Nibbles::new(factors.masks());
     let mut at = seen;
     'blocks: while text.len() - at >= STEP {
-        let passing = filter.marks(text, at + 1);
+        let passing = filter.passing(text, at + 1);
         if passing | hash_bits != 0 {
             tally.pass(passing);
             return (at, probe_passing(factors, text, at, hash_bits, passing));

@@ -28,9 +28,9 @@ fn index_of(alloc: Global, fold: Fold, literals: &[&[u8]]) -> Option<Arc<ListInd
 fn is_made(alloc: Global, fold: Fold, literals: &[&[u8]]) -> Option<bool> {
     let index = index_of(alloc, fold, literals)?;
     let mut automaton = Automaton::new(alloc, index).ok()?;
-    let is_made = automaton.learn();
+    let is_made = automaton.build();
     let is_read = AutomatonEnds::after(&automaton, b"", 0).is_some();
-    if is_made == is_read && automaton.learn() == is_made {
+    if is_made == is_read && automaton.build() == is_made {
         Some(is_made)
     } else {
         None
@@ -50,7 +50,7 @@ fn makes_the_tables_of_a_list(rt: HostRuntime) {
 fn ends_in(alloc: Global, fold: Fold, literals: &[&[u8]], text: &[u8]) -> Option<(usize, usize)> {
     let index = index_of(alloc, fold, literals)?;
     let mut automaton = Automaton::new(alloc, index).ok()?;
-    let _is_made = automaton.learn();
+    let _is_made = automaton.build();
     let mut hits = Vec::new(alloc);
     let (mut sum, mut from) = (0usize, 0);
     for _ in 0..=text.len().min(100_000) {
@@ -128,7 +128,7 @@ fn wide_index(alloc: Global, count: usize, long: &[u8]) -> Option<Arc<ListIndex>
 fn is_wide_made(alloc: Global, count: usize, long: &[u8]) -> Option<bool> {
     let index = wide_index(alloc, count, long)?;
     let mut automaton = Automaton::new(alloc, index).ok()?;
-    Some(automaton.learn())
+    Some(automaton.build())
 }
 
 /// Whether an automaton is made of eight literals of 4,095 bytes and `count` of one byte. It has a state for each byte,
@@ -144,7 +144,7 @@ fn is_long_made(alloc: Global, count: usize) -> Option<bool> {
     let (list, _) = LitList::normal(alloc, &raw, Fold::No).ok()?;
     let index = ListIndex::new(alloc, list).ok()?;
     let mut automaton = Automaton::new(alloc, index).ok()?;
-    Some(automaton.learn())
+    Some(automaton.build())
 }
 
 #[test]

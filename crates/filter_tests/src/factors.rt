@@ -85,7 +85,7 @@ fn are_met(factors: &Factors, text: &[u8], ends: &[usize]) -> bool {
     ends.iter().all(|end| is_met(factors, text, *end))
 }
 
-/// Whether it does before it has learned, and after a sample in which these four bytes come again and again.
+/// Whether it does before it is tuned, and after a sample in which these four bytes come again and again.
 fn meets(
     alloc: Global,
     index: Arc<ListIndex>,
@@ -96,7 +96,7 @@ fn meets(
     let sample = sample_of(alloc, bytes)?;
     let mut factors = Factors::new(alloc, index).ok()?;
     let before = are_met(&factors, text, ends);
-    factors.learn(&sample, EndRate::nothing());
+    factors.tune(&sample, EndRate::nothing());
     Some((before, are_met(&factors, text, ends)))
 }
 
@@ -150,12 +150,12 @@ fn count_passed(factors: &Factors, text: &[u8]) -> (usize, usize) {
     (passed, marked)
 }
 
-/// That for a sample of these four bytes: before it learns from it, and then.
+/// That for a sample of these four bytes: before it is tuned to it, and then.
 fn passed_in(alloc: Global, literals: &[&[u8]], bytes: [u8; 4]) -> Option<[(usize, usize); 2]> {
     let sample = sample_of(alloc, bytes)?;
     let mut factors = Factors::new(alloc, index_of(alloc, Fold::No, literals)?).ok()?;
     let before = count_passed(&factors, &sample);
-    factors.learn(&sample, EndRate::nothing());
+    factors.tune(&sample, EndRate::nothing());
     Some([before, count_passed(&factors, &sample)])
 }
 
@@ -196,7 +196,7 @@ fn found_by(
 ) -> Option<(usize, usize, usize)> {
     let index = index_of(alloc, fold, literals)?;
     let mut shift_or = ShiftOr::new(alloc, index).ok()?;
-    shift_or.learn(&sample_of(alloc, bytes)?, EndRate::nothing());
+    shift_or.tune(&sample_of(alloc, bytes)?, EndRate::nothing());
     let mut probes = shift_or.probes_after(text, 0);
     let (mut found, mut met, mut seen) = (0usize, 0usize, 0);
     let mut tally = Tally::nothing();
@@ -328,7 +328,7 @@ fn count_missed_among(
 ) -> Option<usize> {
     let index = index_of(alloc, fold, &[literal, b"abcd"])?;
     let mut shift_or = ShiftOr::new(alloc, index).ok()?;
-    shift_or.learn(&sample_of(alloc, bytes)?, EndRate::nothing());
+    shift_or.tune(&sample_of(alloc, bytes)?, EndRate::nothing());
     let mut missed = 0usize;
     for before in first..dots {
         let text = dots_round(alloc, word, before, dots)?;
@@ -392,8 +392,8 @@ fn finds_literals_at_each_place_of_blocks(rt: HostRuntime) {
     );
 }
 
-/// Where a search by shift-or finds the second of them that has learned from nothing.
-fn second_unlearned(alloc: Global) -> Option<usize> {
+/// Where a search by shift-or finds the second of them without a sample.
+fn second_untuned(alloc: Global) -> Option<usize> {
     let index = index_of(alloc, Fold::No, &FOURS)?;
     let shift_or = ShiftOr::new(alloc, index).ok()?;
     let mut probes = shift_or.probes_after(WITH_FOURS, FOUR_ENDS[0]);
@@ -405,15 +405,15 @@ fn second_unlearned(alloc: Global) -> Option<usize> {
 }
 
 #[test]
-fn finds_what_ends_before_it_has_learned(rt: HostRuntime) {
-    assert_eq!(rt; second_unlearned(rt.alloc()), Some(11));
+fn finds_what_ends_before_it_is_tuned(rt: HostRuntime) {
+    assert_eq!(rt; second_untuned(rt.alloc()), Some(11));
 }
 
 /// The estimate of a search by shift-or for the literals, given a sample of the bytes.
 fn cost_of(alloc: Global, literals: &[&[u8]], bytes: [u8; 4]) -> Option<usize> {
     let index = index_of(alloc, Fold::No, literals)?;
     let mut shift_or = ShiftOr::new(alloc, index).ok()?;
-    Some(shift_or.learn(&sample_of(alloc, bytes)?, EndRate::nothing()))
+    Some(shift_or.tune(&sample_of(alloc, bytes)?, EndRate::nothing()))
 }
 
 #[test]

@@ -56,7 +56,7 @@ fn estimate_by_factors(alloc: Global, found: EndRate) -> Result<usize, AllocErro
     let index = index_of(alloc, Fold::No, &[b"z"]).ok_or(AllocError)?;
     let mut factors = Factors::new(alloc, index)?;
     let sample = sample_of(alloc, *b"xyzt").ok_or(AllocError)?;
-    Ok(factors.learn(&sample, found))
+    Ok(factors.tune(&sample, found))
 }
 
 #[test]

@@ -8,7 +8,7 @@ ghost use Rattle.fiolargu.specs.declared.statuses.TheConstants.{NULL_HANDLE, OK,
 use crate::statuses::{NULL_HANDLE, OK, OUT_OF_MEMORY, OUT_OF_RANGE, SMALL_BUFFER};
 use crate::views::FoundHit;
 use c_handle::{PlanHandle, SharedPlan};
-use flow_scan::{Compiled, Hit, next_end};
+use flow_scan::{Compiled, Hit, first_end_after};
 use std::alloc::Global;
 
 /// How many bytes the literal of a hit has.
@@ -161,7 +161,7 @@ fn next_of(plan: &Compiled, text: &[u8], from: usize, end: &mut usize) -> i32
     if from > text.len() {
         return OUT_OF_RANGE;
     }
-    match next_end(plan, text, from) {
+    match first_end_after(plan, text, from) {
         Some(found) => *end = found,
         None => *end = 0,
     }

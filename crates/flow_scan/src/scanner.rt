@@ -10,7 +10,7 @@ use lit_plan::{Compiled, Fault};
 use std::alloc::Global;
 use std::marker::Model;
 use text_ends::Hit;
-use text_search::{HitSearch, PlainSearch};
+use text_search::{HitSearch, PrefilterSearch};
 
 /// A scan of one stream by a plan. The stream comes in pieces, cut anywhere. The scan gives every hit once and in
 /// order. Between pieces it keeps only the last bytes, fewer than the longest literal has. It takes this memory when it
@@ -61,7 +61,7 @@ impl<'p> Scanner<'p> {
         ensures hits { OnOk result (GainsHits self.old.plan.literals self.old.tail piece.now self.old.place out.old.items out.new.items) }
         ensures refusals { MayRefuse self.old self.new piece.now out.old.items out.new.items result }
     {
-        self.feed_until(&mut PlainSearch, piece, usize::MAX, out)?;
+        self.feed_until(&mut PrefilterSearch, piece, usize::MAX, out)?;
         Ok(())
     }
 
@@ -69,8 +69,8 @@ impl<'p> Scanner<'p> {
     /// that end in the fed bytes, and returns how many bytes were fed. So `out` gains at most `most` hits and one for
     /// each literal.
     ///
-    /// The search has the scan's plan: it is `PlainSearch`, or a finder that tunes itself to the pieces and may serve any
-    /// number of scans by this plan. The hits do not depend on it.
+    /// The search has the scan's plan: it is `PrefilterSearch`, or a finder that tunes itself to the pieces and may serve
+    /// any number of scans by this plan. The hits do not depend on it.
     ///
     /// Refusals as for `feed`, for the whole piece. Once a piece is not too long, no rest of it is.
     pub fn feed_until<S: HitSearch>(

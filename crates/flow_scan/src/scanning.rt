@@ -15,7 +15,7 @@ use lit_base::LitList;
 use lit_plan::{Compiled, Fault, carry, least_law};
 use std::alloc::Global;
 use text_ends::Hit;
-use text_search::{HitSearch, PlainSearch};
+use text_search::{HitSearch, PrefilterSearch};
 
 /// All hits in a text, in order. The only refusal is `OutOfMemory`.
 pub fn scan_all(alloc: Global, compiled: &Compiled, text: &[u8]) -> Result<Vec<Hit>, Fault>
@@ -26,13 +26,13 @@ pub fn scan_all(alloc: Global, compiled: &Compiled, text: &[u8]) -> Result<Vec<H
     ensures quiet { NoEndAfter compiled.now.literals text.now 0 → IsOk result }
 {
     let _carry = compiled.carry();
-    let hits = scan_after(&mut PlainSearch, alloc, compiled, text, 0)?;
+    let hits = scan_after(&mut PrefilterSearch, alloc, compiled, text, 0)?;
     Ok(hits)
 }
 
 /// The hits of a text that end after `from`, in order. Together with the hits of the first `from` bytes they are the
-/// hits of the text. They do not depend on the search: `PlainSearch`, or a finder, which tunes itself on the way. The only
-/// refusal is `OutOfMemory`.
+/// hits of the text. They do not depend on the search: `PrefilterSearch`, or a finder, which tunes itself on the way. The
+/// only refusal is `OutOfMemory`.
 pub fn scan_after<S: HitSearch>(
     search: &mut S,
     alloc: Global,

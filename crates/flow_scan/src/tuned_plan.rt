@@ -1,4 +1,4 @@
-//! A plan with what its searches have learned.
+//! A plan with the finder that its searches have tuned.
 ghost use Rattle.std.specs.Prelude.{◌≡◌, ◌≤◌, IfOk, IsOkUnless, length};
 ghost use Rattle.std.specs.Arc.{arc_value};
 ghost use Rattle.lit_plan.specs.declared.fault.Fault.TheVariants.{OutOfMemory};
@@ -33,7 +33,7 @@ impl Model for TunedPlan {
 }
 
 impl TunedPlan {
-    /// A plan whose searches have learned nothing. It takes no memory.
+    /// A plan without a finder yet. It takes no memory.
     pub fn new(plan: Arc<Compiled>) -> TunedPlan
         ensures { result ≡ arc_value plan }
     {
@@ -51,7 +51,7 @@ impl TunedPlan {
         &self.plan
     }
 
-    /// Another share of the plan, without what was learned.
+    /// Another share of the plan, without the finder.
     pub fn share(&self) -> Result<Arc<Compiled>, AllocError>
         ensures { IfOk result (λ plan. arc_value plan ≡ self.now) }
     {

@@ -489,9 +489,9 @@ fed-unseen test p seen f =
       state = f.state;
     }
 
--- whether the search of a picker learns does not change where it stands
-pub stands-learned : {o : GrepOptions} {test : List ℕ → Bool} {name text : List ℕ} {p q : Picking} {b : Block} {before now : Writer} → q ≡ record p { learns = q.learns } → StandsAfter o test name text p b before now → StandsAfter o test name text q b before now
-stands-learned {o} {test} {name} {text} {p} {q} {b} {before} {now} same s =
+-- whether a picker has a finder does not change where it stands
+pub stands-tuned : {o : GrepOptions} {test : List ℕ → Bool} {name text : List ℕ} {p q : Picking} {b : Block} {before now : Writer} → q ≡ record p { tunes = q.tunes } → StandsAfter o test name text p b before now → StandsAfter o test name text q b before now
+stands-tuned {o} {test} {name} {text} {p} {q} {b} {before} {now} same s =
     subst (λ (x : Picking). StandsAfter o test name text x b before now) (sym same) record {
       fed = record { tests = s.fed.tests; held = s.fed.held; lines = s.fed.lines; bytes = s.fed.bytes; state = s.fed.state };
       numbers = s.numbers;

@@ -27,7 +27,7 @@ fn finder_for(request: &Request<'_>) -> Result<Option<EndFinder>, AllocError>
     }
 }
 
-/// A picker of the lines that a request selects, before any text, with what learned from the inputs before. It counts lines
+/// A picker of the lines that a request selects, before any text, with the finder of the inputs before. It counts lines
 /// only where their numbers are written, and keeps open lines only where lines are.
 pub fn picker_for<'a>(request: &Request<'a>, finder: Option<EndFinder>) -> Picker<'a>
     requires { IfSome finder (λ list. list_of request.now.patterns.now.plan ≡ Some list) }
@@ -35,7 +35,7 @@ pub fn picker_for<'a>(request: &Request<'a>, finder: Option<EndFinder>) -> Picke
     ensures numbers { result.is_numbered ≡ request.now.options.now.number }
     ensures seen { result.has_bytes ≡ are_shown request.now.options.now }
     ensures plan { result.plan ≡ request.now.patterns.now.plan }
-    ensures learns { result.learns ≡ is_some finder }
+    ensures tunes { result.tunes ≡ is_some finder }
 {
     let picker = line_picker_for(request, finder);
     if shows_lines(request.options) {
@@ -59,7 +59,7 @@ fn line_picker_for<'a>(request: &Request<'a>, finder: Option<EndFinder>) -> Pick
     ensures numbers { result.is_numbered ≡ request.now.options.now.number }
     ensures seen { result.has_bytes ≡ true }
     ensures plan { result.plan ≡ request.now.patterns.now.plan }
-    ensures learns { result.learns ≡ is_some finder }
+    ensures tunes { result.tunes ≡ is_some finder }
 {
     let picker = numbered_picker_for(request, finder);
     if request.options.number {
@@ -76,25 +76,25 @@ fn numbered_picker_for<'a>(request: &Request<'a>, finder: Option<EndFinder>) -> 
     ensures numbers { result.is_numbered ≡ true }
     ensures seen { result.has_bytes ≡ true }
     ensures plan { result.plan ≡ request.now.patterns.now.plan }
-    ensures learns { result.learns ≡ is_some finder }
+    ensures tunes { result.tunes ≡ is_some finder }
 {
     let mut picker = plain_picker_for(request);
     match finder {
         Some(finder) => {
-            picker.learn_by(finder);
+            picker.tune_by(finder);
             picker
         }
         None => picker,
     }
 }
 
-/// A picker that counts lines, and whose search does not learn.
+/// A picker that counts lines, without a finder.
 fn plain_picker_for<'a>(request: &Request<'a>) -> Picker<'a>
     ensures fed { HasFed (test_of request.now) [] result }
     ensures numbers { result.is_numbered ≡ true }
     ensures seen { result.has_bytes ≡ true }
     ensures plan { result.plan ≡ request.now.patterns.now.plan }
-    ensures learns { result.learns ≡ false }
+    ensures tunes { result.tunes ≡ false }
 {
     let rule = LineRule {
         invert: request.options.invert,
@@ -107,7 +107,7 @@ fn plain_picker_for<'a>(request: &Request<'a>) -> Picker<'a>
 
 /// Reads the lines of an input into the block, as far as they are wanted. What a piece gives is written
 /// before more is read, since more may be long in coming; only what the last line gives is held at the
-/// end. In a long run, or after the first piece, the search learns from pieces that are long enough.
+/// end. In a long run, or after the first piece, the search tunes itself to pieces that are long enough.
 pub fn read_lines<'a, I: ByteIn, W: ByteOut>(
     request: &Request<'a>,
     is_long_run: bool,
@@ -143,7 +143,7 @@ pub fn read_lines<'a, I: ByteIn, W: ByteOut>(
 }
 
 /// Takes the next piece of an input, and writes the lines that it ends. `Some` where it is the last one. If the input is long, the
-/// search learns from it.
+/// search tunes itself to it.
 fn feed<'a, W: ByteOut>(
     request: &Request<'a>,
     is_long: bool,
@@ -159,7 +159,7 @@ fn feed<'a, W: ByteOut>(
     ensures plan { picker.new.plan ≡ picker.old.plan }
     ensures flag { W.has_failed out.new ≡ (W.has_failed out.old || is_write_fault result) }
 {
-    learn_if(is_long, request, picker)?;
+    tune_if(is_long, request, picker)?;
     match picker.feed(piece, block) {
         Ok(Next::More) => {
             block.write(out)?;
@@ -173,19 +173,19 @@ fn feed<'a, W: ByteOut>(
 
 /// Gives a picker a finder from now on, if the input is long. Measured when a finder's tables were written at once: to
 /// make it took half a millisecond, as much as a whole run over a small input.
-fn learn_if<'a>(
+fn tune_if<'a>(
     is_long: bool,
     request: &Request<'a>,
     picker: &mut Picker<'a>,
 ) -> Result<(), AllocError>
     requires { picker.old.plan ≡ request.now.patterns.now.plan }
-    ensures { picker.new ≡ record picker.old { learns = picker.new.learns } }
+    ensures { picker.new ≡ record picker.old { tunes = picker.new.tunes } }
 {
-    if !is_long || picker.learns() {
+    if !is_long || picker.tunes() {
         return Ok(());
     }
     if let Some(finder) = finder_for(request)? {
-        picker.learn_by(finder);
+        picker.tune_by(finder);
     }
     Ok(())
 }

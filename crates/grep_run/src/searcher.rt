@@ -89,7 +89,7 @@ fn longest_name(options: &GrepOptions) -> usize {
 #[derive(Drop)]
 struct Searcher<'a> {
     request: Request<'a>,
-    /// What has learned from the inputs so far, once one was long enough, if the request gains by that.
+    /// The finder, tuned to the inputs so far, once one was long enough, if the request gains by that.
     finder: Option<EndFinder>,
     /// How many inputs were searched before.
     searched: usize,

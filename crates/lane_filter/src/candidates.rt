@@ -59,7 +59,7 @@ fn wide_bits<T: EndTest>(test: &T, text: &[u8], from: usize) -> EndBits
 {
     let mut seen = from;
     while text.len() - seen >= 64 {
-        let mask = test.marks(text, seen + 1);
+        let mask = test.passing(text, seen + 1);
         if mask != 0 {
             return EndBits {
                 first: seen + 1,
@@ -90,7 +90,7 @@ fn last_bits<T: EndTest>(test: &T, text: &[u8], seen: usize) -> EndBits
             done,
         };
     }
-    let whole = test.marks(text, first);
+    let whole = test.passing(text, first);
     EndBits {
         first,
         mask: from_bit(whole, seen + 1 - first),
@@ -121,7 +121,7 @@ fn copied_bits<T: EndTest>(test: &T, text: &[u8], from: usize) -> EndBits
 {
     let copy = padded(text);
     test.local_law(text, &copy);
-    let whole = test.marks(&copy, from + 1);
+    let whole = test.passing(&copy, from + 1);
     EndBits {
         first: from + 1,
         mask: below_bit(whole, text.len() - from),

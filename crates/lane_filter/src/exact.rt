@@ -7,23 +7,23 @@ use std::simd::prelude::*;
 
 /// A test of ends by bytes of a literal.
 pub trait ByteTest: EndTest + Copy {
-    ghost is_plain: { Self → Bool };
+    ghost counts_case: { Self → Bool };
 
     /// Whether the case of all bytes counts.
     fn is_exact(&self) -> bool
-        ensures { result ≡ is_plain self.now };
+        ensures { result ≡ counts_case self.now };
 
     /// The bytes, which are case-sensitive, with bits of case that are known to be none. That costs nothing. Without
     /// these bits a search is a quarter faster.
-    fn plain(&self) -> Self
-        requires { IsTrue (is_plain self.now) }
+    fn without_case_bits(&self) -> Self
+        requires { IsTrue (counts_case self.now) }
         ensures { result ≡ self.now };
 }
 
 impl<A: ByteTest, B: ByteTest> ByteTest for AllOf<A, B> {
     ghost use Rattle.std.specs.Prelude.{◌&&◌};
 
-    ghost is_plain = { λ s. A.is_plain s.one && B.is_plain s.other };
+    ghost counts_case = { λ s. A.counts_case s.one && B.counts_case s.other };
 
     #[inline(always)]
     fn is_exact(&self) -> bool {
@@ -31,10 +31,10 @@ impl<A: ByteTest, B: ByteTest> ByteTest for AllOf<A, B> {
     }
 
     #[inline(always)]
-    fn plain(&self) -> AllOf<A, B> {
+    fn without_case_bits(&self) -> AllOf<A, B> {
         AllOf {
-            one: self.one.plain(),
-            other: self.other.plain(),
+            one: self.one.without_case_bits(),
+            other: self.other.without_case_bits(),
         }
     }
 }
@@ -43,13 +43,13 @@ impl<A: ByteTest, B: ByteTest> ByteTest for AllOf<A, B> {
 #[derive(Copy, Debug, PartialEq, Eq)]
 pub struct Exact<T: ByteTest> {
     test: T,
-    ghost exact: { IsTrue (T.is_plain test) },
+    ghost exact: { IsTrue (T.counts_case test) },
 }
 
 impl<T: ByteTest> Exact<T> {
     /// The test, if the case of all its bytes counts.
     pub(crate) fn of(test: T) -> Option<Exact<T>>
-        ensures exact { IsSome result ↔ IsTrue (T.is_plain test) }
+        ensures exact { IsSome result ↔ IsTrue (T.counts_case test) }
         ensures same { IfSome result (λ exact. exact.test ≡ test) }
     {
         if test.is_exact() {
@@ -91,16 +91,16 @@ impl<T: ByteTest> EndTest for Exact<T> {
 
     #[inline(always)]
     fn lanes(&self, text: &[u8], first: usize) -> u8x32 {
-        self.test.plain().lanes(text, first)
+        self.test.without_case_bits().lanes(text, first)
     }
 
     #[inline(always)]
     fn may_hold(&self, turn: Turn, text: &[u8], first: usize) -> bool {
-        self.test.plain().may_hold(turn, text, first)
+        self.test.without_case_bits().may_hold(turn, text, first)
     }
 
     #[inline(always)]
-    fn marks(&self, text: &[u8], first: usize) -> u64 {
-        self.test.plain().marks(text, first)
+    fn passing(&self, text: &[u8], first: usize) -> u64 {
+        self.test.without_case_bits().passing(text, first)
     }
 }

@@ -76,7 +76,7 @@ impl EndTest for RareByte {
     }
 
     #[inline(always)]
-    fn marks(&self, text: &[u8], first: usize) -> u64 {
+    fn passing(&self, text: &[u8], first: usize) -> u64 {
         let bytes = load_64(text, first - 1 - usize::from(self.after));
         equal_bits(bytes, self.case_bit, self.byte)
     }
@@ -85,7 +85,7 @@ impl EndTest for RareByte {
 impl ByteTest for RareByte {
     ghost use Rattle.std.specs.Prelude.{◌==◌};
 
-    ghost is_plain = { λ rare. rare.case_bit == 0 };
+    ghost counts_case = { λ rare. rare.case_bit == 0 };
 
     #[inline(always)]
     fn is_exact(&self) -> bool {
@@ -93,7 +93,7 @@ impl ByteTest for RareByte {
     }
 
     #[inline(always)]
-    fn plain(&self) -> RareByte {
+    fn without_case_bits(&self) -> RareByte {
         RareByte {
             case_bit: 0,
             ..*self

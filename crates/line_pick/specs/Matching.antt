@@ -56,7 +56,7 @@ AreInLines plan = All IsOnePiece (literals_of plan)
 -- a search of lines is by one plan, none of whose literals holds a newline
 pub record IsByPlan (s : LineSearch) : Type 0 where
   pub apart : AreInLines (option_copied s.matcher.plan)
-  pub learner : IfSome s.finder (λ list. list_of (option_copied s.matcher.plan) ≡ Some list)
+  pub serves : IfSome s.finder (λ list. list_of (option_copied s.matcher.plan) ≡ Some list)
 
 -- a plan and a null pattern stand for raw patterns under a fold: the literals are their normal form, and the null pattern is there if one of them is null
 pub record StandsFor (folding : Fold) (raw : List (List ℕ)) (plan : Option Plan) (has_empty : Bool) : Type 0 where

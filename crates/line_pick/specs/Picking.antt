@@ -19,7 +19,7 @@ pub record Picking : Type 0 where
   pub lines : ℕ
   pub bytes : ℕ
   pub state : State
-  pub learns : Bool
+  pub tunes : Bool
 
 -- the answer of a call, where no more lines are emitted
 abbrev pub answer_in : State → Option (Result Next Fault)

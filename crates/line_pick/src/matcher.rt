@@ -5,7 +5,7 @@ ghost use Rattle.lit_base.specs.Literals.{lengths};
 ghost use Rattle.lit_base.specs.Selected.{matches};
 ghost use Rattle.line_pick.specs.Matching.{StandingLaw, matched, picks};
 
-use flow_scan::{Compiled, EndFinder, next_end};
+use flow_scan::{Compiled, EndFinder, first_end_after};
 use list_index::ListIndex;
 use memchr::memchr;
 
@@ -97,7 +97,7 @@ impl Matcher<'_> {
         match self.plan {
             Some(compiled) => {
                 compiled.list().normal_law();
-                next_end(compiled, line, 0).is_some()
+                first_end_after(compiled, line, 0).is_some()
             }
             None => false,
         }

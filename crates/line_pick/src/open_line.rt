@@ -7,7 +7,7 @@ ghost use Rattle.line_pick.specs.OpenLines.{IsDecided, IsDecidingPart, longest_i
 
 use crate::matcher::{LineSearch, Matcher};
 use flow_scan::{Compiled, EndFinder, TextSearch};
-use text_lines::next_end;
+use text_lines::next_end_by;
 
 /// A part of a text, between two positions.
 #[derive(Drop)]
@@ -101,7 +101,7 @@ fn hit_or_tail(compiled: &Compiled, finder: &mut Option<EndFinder>, line: &[u8])
     list.normal_law();
     let longest = list.longest();
     let mut search = TextSearch::new(compiled, line);
-    match next_end(finder, &mut search, 0) {
+    match next_end_by(finder, &mut search, 0) {
         Some(end) => Part {
             start: end.saturating_sub(longest),
             end,

@@ -44,7 +44,7 @@ impl<'p> Model for Picker<'p> {
       lines = if p.progress.is_numbered then p.progress.lines else 0;
       bytes = p.progress.bytes;
       state = p.state;
-      learns = is_some p.search.finder;
+      tunes = is_some p.search.finder;
     } };
 
     ghost invariant = { λ p. IsSound p.progress × IsByPlan p.search };
@@ -70,7 +70,7 @@ impl<'p> Picker<'p> {
           lines = 0;
           bytes = 0;
           state = Running;
-          learns = false;
+          tunes = false;
         } }
     {
         Picker {
@@ -106,16 +106,16 @@ impl<'p> Picker<'p> {
     }
 
     /// Whether the search tunes itself to the text.
-    pub fn learns(&self) -> bool
-        ensures { result ≡ self.now.learns }
+    pub fn tunes(&self) -> bool
+        ensures { result ≡ self.now.tunes }
     {
         self.search.finder.is_some()
     }
 
     /// From now on the search tunes itself, by this finder. The emitted lines do not depend on it.
-    pub fn learn_by(&mut self, finder: EndFinder)
+    pub fn tune_by(&mut self, finder: EndFinder)
         requires { list_of self.old.plan ≡ Some finder }
-        ensures { self.new ≡ record self.old { learns = true } }
+        ensures { self.new ≡ record self.old { tunes = true } }
     {
         self.search.finder = Some(finder);
     }
@@ -123,7 +123,7 @@ impl<'p> Picker<'p> {
     /// The finder, tuned to the text so far, for use with the next text; `None` if the picker has none.
     pub fn into_finder(self) -> Option<EndFinder>
         ensures plan { IfSome result (λ list. list_of self.entry.plan ≡ Some list) }
-        ensures learned { is_some result ≡ self.entry.learns }
+        ensures tuned { is_some result ≡ self.entry.tunes }
     {
         self.search.finder
     }
@@ -141,7 +141,7 @@ impl<'p> Picker<'p> {
             → Feeds S.takes self.old piece.now sink.old result self.new sink.new }
         ensures over { self.old.state ≢ Running → Stays self.old sink.old result self.new sink.new }
         ensures plan { self.new.plan ≡ self.old.plan }
-        ensures learns { self.new.learns ≡ self.old.learns }
+        ensures tunes { self.new.tunes ≡ self.old.tunes }
     {
         if let Some(answer) = self.state.answer() {
             return answer;
@@ -160,7 +160,7 @@ impl<'p> Picker<'p> {
             → Finishes S.takes self.old sink.old result self.new sink.new }
         ensures over { self.old.state ≢ Running → Stays self.old sink.old result self.new sink.new }
         ensures plan { self.new.plan ≡ self.old.plan }
-        ensures learns { self.new.learns ≡ self.old.learns }
+        ensures tunes { self.new.tunes ≡ self.old.tunes }
     {
         if let Some(answer) = self.state.answer() {
             return answer;

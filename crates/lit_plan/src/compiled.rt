@@ -21,7 +21,7 @@ use lane_filter::Prefilter;
 use list_index::ListIndex;
 use lit_base::LitList;
 use lit_cert::{Certificate, certified_law, check};
-use prefilter_search::PrefilteredEnds;
+use prefilter_search::PrefilterEnds;
 use std::alloc::AllocError;
 use std::marker::Model;
 use std::sync::Arc;
@@ -146,11 +146,11 @@ impl Compiled {
 
     /// The positions of a text after `from` at which literals end, found by the prefilter. It reads nothing yet.
     #[inline]
-    pub fn ends_after<'a>(&'a self, text: &'a [u8], from: usize) -> PrefilteredEnds<'a>
+    pub fn prefilter_ends<'a>(&'a self, text: &'a [u8], from: usize) -> PrefilterEnds<'a>
         requires { from ≤ length text.now }
         ensures { result ≡ record { literals = self.now.literals; text = text.now; from = from } }
     {
-        PrefilteredEnds::after(self.index(), self.prefilter(), text, from)
+        PrefilterEnds::after(self.index(), self.prefilter(), text, from)
     }
 
     /// How many bytes of a literal may precede a piece in which it ends.

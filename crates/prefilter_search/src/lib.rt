@@ -1,6 +1,6 @@
 //! The search by a prefilter alone: each position that it passes is compared with the literals.
 #![tactic(auto)]
 
-mod prefiltered;
+mod prefilter_ends;
 
-pub use prefiltered::PrefilteredEnds;
+pub use prefilter_ends::PrefilterEnds;

@@ -53,9 +53,9 @@ pub record IsServing (s : Serving) : Type 0 where
   pub streams : All (λ stream. IsBound s.store stream.1) s.streams
 
 -- and its finder, if it has one, is by the plan of a ticket of its store
-pub record IsSession (s : Serving) (learner : Option TicketParts) : Type 0 where
+pub record IsSession (s : Serving) (finder : Option TicketParts) : Type 0 where
   pub serving : IsServing s
-  pub own : IfSome learner (IsOf s.store)
+  pub own : IfSome finder (IsOf s.store)
 
 -- a request is one step of the session, with these replies
 pub record IsEvent (before : Serving) (request : RequestParts) (replies : List ReplyParts) (after : Serving) : Type 0 where

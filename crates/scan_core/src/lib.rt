@@ -5,11 +5,11 @@
 mod answering;
 mod fault;
 mod few;
-mod learner;
 mod limits;
 mod publishing;
 mod refusal;
 mod session;
+mod session_finder;
 mod stream;
 mod tickets;
 mod together;

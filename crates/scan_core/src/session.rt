@@ -13,10 +13,10 @@ ghost use Rattle.scan_core.specs.declared.fault.Fault.TheVariants.{OutOfMemory};
 use crate::answering::push_answer;
 use crate::fault::Fault;
 use crate::few::Few;
-use crate::learner::Learner;
 use crate::limits::MAX_STREAMS;
 use crate::publishing::planned;
 use crate::refusal::{Refusal, refusal_of_literals};
+use crate::session_finder::SessionFinder;
 use crate::stream::{Stream, find_stream};
 use crate::tickets::{agrees_with, known_ticket};
 use flow_scan::Hit;
@@ -33,7 +33,7 @@ pub struct Session<'s> {
     store: &'s PlanStore,
     published_plans: Few<Ticket>,
     streams: Few<Stream<'s>>,
-    learner: Learner,
+    finder: SessionFinder,
 }
 
 /// A contract sees the store, the tickets of the published plans and the open streams. The finder changes no answer.
@@ -44,7 +44,7 @@ impl<'s> Model for Session<'s> {
 
     ghost view = { λ s. record { store = s.store.now; published_plans = s.published_plans; streams = s.streams } };
 
-    ghost invariant = { λ s. IsSession record { store = s.store.now; published_plans = s.published_plans; streams = s.streams } s.learner };
+    ghost invariant = { λ s. IsSession record { store = s.store.now; published_plans = s.published_plans; streams = s.streams } s.finder };
 }
 
 impl<'s> Session<'s> {
@@ -56,7 +56,7 @@ impl<'s> Session<'s> {
             store,
             published_plans: Few::new(),
             streams: Few::new(),
-            learner: Learner::new(),
+            finder: SessionFinder::new(),
         }
     }
 
@@ -281,14 +281,14 @@ impl<'s> Session<'s> {
             unreachable!()
         };
         let bound = self.streams.get_mut(place);
-        self.learner.prepare(
+        self.finder.prepare(
             alloc,
             self.store,
             bound.ticket(),
             bound.place(),
             piece.len(),
         );
-        let count = bound.feed_prefix(self.store, &mut self.learner, piece, most, out)?;
+        let count = bound.feed_prefix(self.store, &mut self.finder, piece, most, out)?;
         Ok(count)
     }
 

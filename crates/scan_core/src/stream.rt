@@ -14,7 +14,7 @@ ghost use Rattle.std.specs.Prelude.{nat_eq, None};
 
 use crate::fault::Fault;
 use crate::few::Few;
-use crate::learner::Learner;
+use crate::session_finder::SessionFinder;
 use flow_scan::{Compiled, Fault as ScanFault, Hit, Scanner};
 use plan_store::{PlanStore, Ticket};
 use scan_wire::Reply;
@@ -105,22 +105,22 @@ impl<'s> Stream<'s> {
     pub(crate) fn feed_prefix(
         &mut self,
         store: &PlanStore,
-        learner: &mut Learner,
+        finder: &mut SessionFinder,
         piece: &[u8],
         most: usize,
         out: &mut Vec<Hit>,
     ) -> Result<usize, Fault>
         requires bound { IsBound store.now self.old.1 }
-        requires own { IfSome learner.old (IsOf store.now) }
+        requires own { IfSome finder.old (IsOf store.now) }
         requires room { self.old.1.scan.place + length piece.now < 2 ^ 64 }
-        ensures learner { learner.new ≡ learner.old }
+        ensures finder { finder.new ≡ finder.old }
         ensures bound { IsBound store.now self.new.1 }
         ensures ok { IfOk result (λ count. MovesUpTo self.old piece.now most count out.old.items out.new.items self.new) }
         ensures same { OnErr result (self.new ≡ self.old) }
         ensures same_hits { OnErr result (out.new.items ≡ out.old.items) }
         ensures fault { IsOkUnless result OutOfMemory }
     {
-        learner.feed(store, &self.ticket, &mut self.scanner, piece, most, out)
+        finder.feed(store, &self.ticket, &mut self.scanner, piece, most, out)
     }
 
     /// The place after a piece; none where it would pass 2^64 - 1.

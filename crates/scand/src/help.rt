@@ -24,10 +24,10 @@ Usage: scand --port P --connections N [--plans FILE]...
 
 All clients share the plans that they publish, each under its number. Each
 frame is answered before the next one is waited for. Of what was fed the last
-bytes are kept that a hit may need and, of long streams, up to 16 KiB to learn
-from. A client takes up to 1.3 megabytes beside its plans, up to 9.8 where
-literals end often, whatever it asks. It may wait for as long as it likes: put
-a limit, where one is wanted, before the server.
+bytes are kept that a hit may need and, of long streams, up to 16 KiB to tune
+the search. A client takes up to 1.3 megabytes beside its plans, up to 9.8
+where literals end often, whatever it asks. It may wait for as long as it
+likes: put a limit, where one is wanted, before the server.
 
 A plan file, as `litplan pack` writes one, holds up to 64 plans, each with its
 certificate. It is read whole, each certificate is checked again, and the plans

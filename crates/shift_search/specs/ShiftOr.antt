@@ -7,8 +7,8 @@ use Rattle.list_index.specs.HashBits.{AreKeyBits}
 use Rattle.lit_base.specs.Occurrences.{Occurs}
 use Rattle.list_index.specs.Suffixes.{case_bits, last_key, suffix_key}
 use Rattle.lit_base.specs.declared.fold.Fold.{Fold}
-use Rattle.shift_search.specs.declared.confirming.Confirms.{Confirms}
-use Rattle.shift_search.specs.declared.confirming.TheConstants.{CONFIRM_BITS}
+use Rattle.shift_search.specs.declared.bucket_checks.BucketChecks.{BucketChecks}
+use Rattle.shift_search.specs.declared.bucket_checks.TheConstants.{CHECK_BITS}
 use Rattle.shift_search.specs.declared.entries.TheConstants.{ENTRIES}
 use Rattle.shift_search.specs.declared.joining.FourRuled.{FourRuled}
 use Rattle.shift_search.specs.declared.joining.Ruled.{Ruled}
@@ -106,7 +106,7 @@ abbrev pub bucket_key : Literals → List ℕ → List ℕ → ℕ → ℕ
 bucket_key l buckets widths place = last_key l (slice_index widths (bucket_at buckets place)) place
 
 -- each literal's key has the bit of its bucket, and nothing else has
-pub record AreConfirmsOf (l : Literals) (buckets : List ℕ) (confirms : Confirms) : Type 0 where
-  pub case : confirms.case_bits ≡ case_bits l.folding
-  pub widths : AreWidthsOf l buckets confirms.widths.items (length l.texts)
-  pub bits : AreKeyBits CONFIRM_BITS (bucket_key l buckets confirms.widths.items) (bucket_at buckets) (length l.texts) confirms.table.items
+pub record AreBucketChecksOf (l : Literals) (buckets : List ℕ) (checks : BucketChecks) : Type 0 where
+  pub case : checks.case_bits ≡ case_bits l.folding
+  pub widths : AreWidthsOf l buckets checks.widths.items (length l.texts)
+  pub bits : AreKeyBits CHECK_BITS (bucket_key l buckets checks.widths.items) (bucket_at buckets) (length l.texts) checks.table.items

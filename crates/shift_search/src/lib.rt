@@ -2,7 +2,7 @@
 #![tactic(auto)]
 
 mod blocks;
-mod confirming;
+mod bucket_checks;
 mod entries;
 mod joining;
 mod prices;
@@ -10,10 +10,10 @@ mod probes;
 mod probing;
 mod runs;
 mod shift_or;
-mod shifted;
+mod shift_or_ends;
 mod tuning;
 
 pub use runs::cut_runs;
 pub use shift_or::ShiftOr;
-pub use shifted::ShiftedEnds;
+pub use shift_or_ends::ShiftOrEnds;
 pub use tuning::SHIFT_OR_COST;

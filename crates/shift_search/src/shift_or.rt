@@ -10,7 +10,7 @@ ghost use Rattle.shift_search.specs.declared.blocks.TheConstants.{GROUP, GROUPS}
 ghost use Rattle.shift_search.specs.declared.shift_or.TheConstants.{FIRST};
 
 use crate::blocks::{GROUP, GROUPS, note_words, probe_block};
-use crate::confirming::{CONFIRM_BITS, Confirms};
+use crate::bucket_checks::{BucketChecks, CHECK_BITS};
 use crate::entries::{ENTRIES, PLACES, fill_all};
 use crate::joining::{lacking, last_alone, last_of};
 use crate::prices::{cost_of, estimate};
@@ -52,7 +52,7 @@ pub struct ShiftOr {
     /// The bucket of each literal.
     buckets: Vec<u8>,
     /// The second check of the buckets of an end.
-    confirms: Confirms,
+    checks: BucketChecks,
     /// Empty, with room for all, until it is first tuned.
     entries: Vec<u64>,
     stride: Stride,
@@ -60,7 +60,7 @@ pub struct ShiftOr {
 
 impl Model for ShiftOr {
     ghost use Rattle.std.specs.Prelude.{◌≡◌, ◌<◌, ◌≤◌, length, vec_capacity, vec_len};
-    ghost use Rattle.shift_search.specs.ShiftOr.{AreConfirmsOf, AreEntriesOf, Bucketing};
+    ghost use Rattle.shift_search.specs.ShiftOr.{AreBucketChecksOf, AreEntriesOf, Bucketing};
     ghost use Rattle.shift_search.specs.declared.entries.TheConstants.{ENTRIES};
 
     ghost Value = { Bucketing };
@@ -70,7 +70,7 @@ impl Model for ShiftOr {
     ghost invariant = { λ s. (ENTRIES ≤ vec_capacity s.entries)
         × (0 < vec_len s.entries → AreEntriesOf s.index.value s.buckets.items s.entries.items)
         × (vec_len s.buckets ≡ length s.index.value.texts)
-        × AreConfirmsOf s.index.value s.buckets.items s.confirms };
+        × AreBucketChecksOf s.index.value s.buckets.items s.checks };
 }
 
 impl ShiftOr {
@@ -81,12 +81,12 @@ impl ShiftOr {
         let list = index.list();
         let mut buckets = Vec::from_elem(alloc, 0, list.len())?;
         cut_runs(list, &mut buckets);
-        let confirms = Confirms::new(alloc, list, &buckets)?;
+        let checks = BucketChecks::new(alloc, list, &buckets)?;
         let entries = Vec::with_capacity(alloc, ENTRIES)?;
         Ok(ShiftOr {
             index,
             buckets,
-            confirms,
+            checks,
             entries,
             stride: Stride::One,
         })
@@ -103,7 +103,7 @@ impl ShiftOr {
     /// Makes the entries, if they are missing, and chooses the stride. Returns the estimate of a search for 1,024 bytes
     /// of a text like the sample, in tenths of a nanosecond, with ends at this rate. The work that factors also do at
     /// each end is not included.
-    pub fn learn(&mut self, sample: &[u8], rate: EndRate) -> usize
+    pub fn tune(&mut self, sample: &[u8], rate: EndRate) -> usize
         ensures { self.new ≡ self.old }
     {
         self.fill();
@@ -265,7 +265,7 @@ impl ShiftOr {
                     return Some(found);
                 }
                 if may_skip(at, far, opened) {
-                    let (passed, after) = self.skip_blocks::<STEP>(
+                    let (passed, after) = self.pass_blocks::<STEP>(
                         entries,
                         text,
                         start,
@@ -287,7 +287,7 @@ impl ShiftOr {
     /// Continues after probes that left no end, block by block while nothing ends in a block and some groups are noted.
     /// Returns the last position, and what the last probes rule out after it.
     #[inline(never)]
-    fn skip_blocks<const STEP: usize>(
+    fn pass_blocks<const STEP: usize>(
         &self,
         entries: &[u64],
         text: &[u8],
@@ -508,9 +508,9 @@ impl ShiftOr {
         requires inside { end ≤ length text.now }
         ensures { result ≡ false → NoneOf self.now text.now bucket end }
     {
-        let width = self.confirms.widths[bucket];
-        let key = masked_key(last_word(text, end), width, self.confirms.case_bits);
-        has_bit(self.confirms.table[hash_of(CONFIRM_BITS, key)], bucket)
+        let width = self.checks.widths[bucket];
+        let key = masked_key(last_word(text, end), width, self.checks.case_bits);
+        has_bit(self.checks.table[hash_of(CHECK_BITS, key)], bucket)
     }
 
     /// The first end after `from` and up to `last`, with the first literal that ends there, without probes.

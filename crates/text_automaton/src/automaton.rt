@@ -13,7 +13,7 @@ use std::marker::Model;
 use std::sync::Arc;
 
 /// The Aho-Corasick automaton of a list. It steps from state to state by the bytes of a text; the output of the state
-/// at a position is the literals that end there. `new` takes all memory, but only `learn` builds the tables: a search
+/// at a position is the literals that end there. `new` takes all memory, but only `build` builds the tables: a search
 /// that never needs them does not write them. Building is not proved; tables that pass the check give all ends, and no
 /// others.
 #[derive(Debug, Drop)]
@@ -48,7 +48,7 @@ impl Model for Automaton {
 }
 
 impl Automaton {
-    /// The automaton of a list, with memory but without tables: it reads nothing before `learn`. `Err` if memory is
+    /// The automaton of a list, with memory but without tables: it reads nothing before `build`. `Err` if memory is
     /// short.
     pub fn new(alloc: Global, index: Arc<ListIndex>) -> Result<Automaton, AllocError>
         ensures literals { IfOk result (λ made. made.literals ≡ index.value) }
@@ -81,7 +81,7 @@ impl Automaton {
     }
 
     /// Builds the tables, unless they were built or refused before. Returns whether texts can be read by them.
-    pub fn learn(&mut self) -> bool
+    pub fn build(&mut self) -> bool
         ensures literals { self.new.literals ≡ self.old.literals }
         ensures made { result ≡ self.new.is_made }
         ensures kept { self.old.is_made ≡ true → self.new ≡ self.old }
@@ -106,7 +106,11 @@ impl Automaton {
     /// The next position at which some literal ends, with its state; the reading moves there. `None` if no literal ends
     /// after the position of the reading. It takes no memory.
     #[inline]
-    pub(crate) fn next_end(&self, text: &[u8], reading: &mut Reading) -> Option<(usize, usize)>
+    pub(crate) fn next_with_state(
+        &self,
+        text: &[u8],
+        reading: &mut Reading,
+    ) -> Option<(usize, usize)>
         requires { IsReading self.now text.now reading.old }
         ensures next { MatchOption result
             (NoEndAfter self.now.literals text.now (place_of reading.old))

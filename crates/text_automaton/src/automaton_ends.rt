@@ -71,7 +71,7 @@ impl<'a> Ends for AutomatonEnds<'a> {
 
     #[inline(always)]
     fn next_end(&mut self) -> Option<(usize, usize)> {
-        let found = self.automaton.next_end(self.text, &mut self.reading);
+        let found = self.automaton.next_with_state(self.text, &mut self.reading);
         self.ends = self.ends.saturating_add(usize::from(found.is_some()));
         found
     }

@@ -32,7 +32,7 @@ pub record HitSearch : Type 0 where
 
 -- a search is by the plan, of a text of ended lines, and the rest stands after some of them
 pub record IsHitSearch (plan : Plan) (finder : Option Literals) (search : Searched) (text rest : List ℕ) : Type 0 where
-  pub learner : IfSome finder (λ list. list ≡ plan.literals)
+  pub serves : IfSome finder (λ list. list ≡ plan.literals)
   pub by_plan : search ≡ record { plan = plan; text = text }
   pub after : IsAfterLines text rest
   pub closed : open_rest rest ≡ []

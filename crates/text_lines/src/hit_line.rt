@@ -209,7 +209,7 @@ impl<'a> HitLines<'a> {
             (IsNextEnd self.old.plan.literals self.old.rest 0) }
     {
         let from = self.text.len() - self.rest.len();
-        let end = next_end(&mut self.finder, &mut self.search, from)?;
+        let end = next_end_by(&mut self.finder, &mut self.search, from)?;
         Some(end - from)
     }
 }
@@ -217,7 +217,7 @@ impl<'a> HitLines<'a> {
 /// The next position of a search's text at which some literal ends, by the finder if there is one, and otherwise by the
 /// plan alone.
 #[inline]
-pub fn next_end(
+pub fn next_end_by(
     finder: &mut Option<EndFinder>,
     search: &mut TextSearch<'_>,
     from: usize,
@@ -230,8 +230,8 @@ pub fn next_end(
         (IsNextEnd search.old.plan.literals search.old.text from) }
 {
     match finder {
-        Some(finder) => finder.next_end_of(search, from),
-        None => search.next_end(from),
+        Some(finder) => finder.next_end_in(search, from),
+        None => search.next_end_after(from),
     }
 }
 

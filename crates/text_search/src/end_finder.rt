@@ -3,8 +3,8 @@ ghost use Rattle.std.specs.Prelude.{◌≡◌, ◌+◌, ◌-◌, ◌^◌, ◌<�
 ghost use Rattle.std.specs.Option.{IfNone};
 ghost use Rattle.text_search.specs.Searched.{AddsHits, FindsNext};
 
-use crate::hit_search::{HitSearch, PlainSearch};
-use crate::prices::{cost_by_automaton, cost_by_plan, cost_of_dense_ends};
+use crate::hit_search::{HitSearch, PrefilterSearch};
+use crate::prices::{cost_by_automaton, cost_by_prefilter, cost_of_dense_ends};
 use crate::sampling::Sample;
 use crate::strategy::{
     Engine, Step, Strategy, Wanted, has_factors, has_use, least_gathered, sample_len, span_after,
@@ -13,16 +13,16 @@ use crate::strategy::{
 use crate::text_search::{TextSearch, next_of};
 use factor_search::{FactorEnds, Factors};
 use lit_plan::Compiled;
-use shift_search::{ShiftOr, ShiftedEnds};
+use shift_search::{ShiftOr, ShiftOrEnds};
 use std::alloc::{AllocError, Global};
 use std::marker::Model;
 use text_automaton::{Automaton, AutomatonEnds};
 use text_ends::{EndRate, Hit, add_hits_of};
 
-/// A search through the texts of one run for the literals of a plan. It begins as `next_end` does. When false positives
-/// and ends have cost too much, it tunes itself to a sample of the text. It then compares the estimates of factors,
-/// shift-or and, for scans, the automaton, and changes to the cheapest if this promises a gain. Its results do not
-/// depend on this. It takes all its memory when it is made.
+/// A search through the texts of one run for the literals of a plan. It begins as `first_end_after` does. When false
+/// positives and ends have cost too much, it tunes itself to a sample of the text. It then compares the estimates of
+/// factors, shift-or and, for scans, the automaton, and changes to the cheapest if this promises a gain. Its results do
+/// not depend on this. It takes all its memory when it is made.
 #[derive(Debug, Drop)]
 pub struct EndFinder {
     /// Factors, unless the list is too long for them.
@@ -87,7 +87,7 @@ impl EndFinder {
 
     /// The first position of a search's text after `from` at which some literal ends, wherever it begins, or `None`. It
     /// takes no memory.
-    pub fn next_end_of(&mut self, search: &mut TextSearch<'_>, from: usize) -> Option<usize>
+    pub fn next_end_in(&mut self, search: &mut TextSearch<'_>, from: usize) -> Option<usize>
         requires { self.old ≡ search.old.plan.literals }
         ensures same { self.new ≡ self.old }
         ensures search { search.new ≡ search.old }
@@ -97,11 +97,11 @@ impl EndFinder {
         if from >= text.len() {
             return None;
         }
-        self.learn_if_due(search.compiled(), text, from, Wanted::Ends);
+        self.tune_if_due(search.compiled(), text, from, Wanted::Ends);
         self.next_by_engine(search, from)
     }
 
-    /// As `next_end_of`, by the engine in use.
+    /// As `next_end_in`, by the engine in use.
     fn next_by_engine(&mut self, search: &mut TextSearch<'_>, from: usize) -> Option<usize>
         requires plan { self.old ≡ search.old.plan.literals }
         requires inside { from < length search.old.text }
@@ -120,7 +120,7 @@ impl EndFinder {
                 found
             }
             (Engine::ShiftOr, _) => {
-                let mut ends = ShiftedEnds::after(&self.shift_or, text, from);
+                let mut ends = ShiftOrEnds::after(&self.shift_or, text, from);
                 let found = next_of(&mut ends);
                 let (count, rate) = passed(text, from, found);
                 let spent = self.shift_or.cost_of(count, ends.tally().marked, rate);
@@ -129,10 +129,11 @@ impl EndFinder {
             }
             _ => {
                 let before = search.missed();
-                let found = search.next_end(from);
+                let found = search.next_end_after(from);
                 let (count, rate) = passed(text, from, found);
                 let missed = search.missed().saturating_sub(before);
-                self.strategy.note(count, cost_by_plan(missed, 0), rate);
+                self.strategy
+                    .note(count, cost_by_prefilter(missed, 0), rate);
                 found
             }
         }
@@ -156,7 +157,7 @@ impl EndFinder {
         ensures hits { AddsHits compiled.now.literals text.now from at most out.old.items out.new.items result }
     {
         let Some(mut ends) = AutomatonEnds::after(&self.automaton, text, from) else {
-            return PlainSearch.add_hits(compiled, text, from, at, most, out);
+            return PrefilterSearch.add_hits(compiled, text, from, at, most, out);
         };
         let stop = add_hits_of(&mut ends, text, from, at, most, out)?;
         let found = ends.ends();
@@ -167,26 +168,26 @@ impl EndFinder {
     }
 
     /// Tunes itself to the text after `from`, if the rest is expected to gain by that.
-    fn learn_if_sure(&mut self, compiled: &Compiled, text: &[u8], from: usize)
+    fn tune_if_sure(&mut self, compiled: &Compiled, text: &[u8], from: usize)
         requires { from ≤ length text.now }
         ensures { self.new ≡ self.old }
     {
         if self.strategy.tunes_before(text.len() - from) {
-            self.learn(compiled, text, from, Wanted::Hits);
+            self.tune(compiled, text, from, Wanted::Hits);
         }
     }
 
     /// Tunes itself to the text after `from`, if it is due and the text is long enough for a sample. A search for hits
     /// gathers a shorter text.
     #[inline(always)]
-    fn learn_if_due(&mut self, compiled: &Compiled, text: &[u8], from: usize, wanted: Wanted)
+    fn tune_if_due(&mut self, compiled: &Compiled, text: &[u8], from: usize, wanted: Wanted)
         requires { from ≤ length text.now }
         ensures { self.new ≡ self.old }
     {
         match self.strategy.step(text.len() - from, wanted) {
             Step::GoOn => (),
             Step::Gather => self.gather(compiled, text, from),
-            Step::Tune => self.learn(compiled, text, from, wanted),
+            Step::Tune => self.tune(compiled, text, from, wanted),
         }
     }
 
@@ -204,7 +205,7 @@ impl EndFinder {
             return;
         };
         if sample.add(rest) {
-            self.learn(compiled, sample.text(), 0, Wanted::Hits);
+            self.tune(compiled, sample.text(), 0, Wanted::Hits);
             sample.clear();
         }
         self.sample = Some(sample);
@@ -212,7 +213,7 @@ impl EndFinder {
 
     /// Tunes itself to a sample of the text after `from`.
     #[inline(never)]
-    fn learn(&mut self, compiled: &Compiled, text: &[u8], from: usize, wanted: Wanted)
+    fn tune(&mut self, compiled: &Compiled, text: &[u8], from: usize, wanted: Wanted)
         requires { from ≤ length text.now }
         ensures { self.new ≡ self.old }
     {
@@ -225,7 +226,7 @@ impl EndFinder {
         let automaton_cost = self.cost_of_automaton(compiled, wanted, rate);
         let is_made_first = self.makes_automaton(wants_automaton_first(automaton_cost, by_factors));
         let by_shift_or = if !is_made_first && wants_shift_or(by_factors) {
-            self.shift_or.learn(sample, rate).saturating_add(dense)
+            self.shift_or.tune(sample, rate).saturating_add(dense)
         } else {
             usize::MAX
         };
@@ -243,7 +244,7 @@ impl EndFinder {
         ensures { self.new ≡ self.old }
     {
         match &mut self.factors {
-            Some(factors) => factors.learn(sample, rate),
+            Some(factors) => factors.tune(sample, rate),
             None => usize::MAX,
         }
     }
@@ -255,7 +256,7 @@ impl EndFinder {
         if !is_wanted {
             return false;
         }
-        self.automaton.learn()
+        self.automaton.build()
     }
 
     /// The estimate of a scan by the automaton for 1,024 bytes with ends at this rate; `usize::MAX` for single ends,
@@ -285,7 +286,7 @@ impl HitSearch for EndFinder {
         most: usize,
         out: &mut Vec<Hit>,
     ) -> Result<usize, AllocError> {
-        self.learn_if_due(compiled, text, from, Wanted::Hits);
+        self.tune_if_due(compiled, text, from, Wanted::Hits);
         match (self.strategy.engine_for(text.len() - from), &self.factors) {
             (Engine::Automaton, _) => self.add_by_automaton(compiled, text, from, at, most, out),
             (Engine::Factors, Some(factors)) => {
@@ -297,7 +298,7 @@ impl HitSearch for EndFinder {
                 Ok(stop)
             }
             (Engine::ShiftOr, _) => {
-                let mut ends = ShiftedEnds::after(&self.shift_or, text, from);
+                let mut ends = ShiftOrEnds::after(&self.shift_or, text, from);
                 let stop = add_hits_of(&mut ends, text, from, at, most, out)?;
                 let tally = ends.tally();
                 let found = EndRate::of_scan(tally.ends);
@@ -306,10 +307,10 @@ impl HitSearch for EndFinder {
                 Ok(stop)
             }
             _ => {
-                let mut ends = compiled.ends_after(text, from);
+                let mut ends = compiled.prefilter_ends(text, from);
                 let stop = add_hits_of(&mut ends, text, from, at, most, out)?;
                 let found = EndRate::of_scan(ends.tally().ends);
-                let spent = cost_by_plan(ends.tally().passed, found.ends);
+                let spent = cost_by_prefilter(ends.tally().passed, found.ends);
                 self.strategy.note(stop - from, spent, found);
                 Ok(stop)
             }
@@ -328,7 +329,7 @@ impl HitSearch for EndFinder {
         let before = out.len();
         let mut place = from;
         'spans: while place < text.len() {
-            self.learn_if_sure(compiled, text, place);
+            self.tune_if_sure(compiled, text, place);
             let stop = text
                 .len()
                 .min(place.saturating_add(span_after(place - from)));

@@ -50,9 +50,9 @@ pub trait HitSearch {
 
 /// The search by a plan alone.
 #[derive(Drop)]
-pub struct PlainSearch;
+pub struct PrefilterSearch;
 
-impl HitSearch for PlainSearch {
+impl HitSearch for PrefilterSearch {
     ghost serves = { λ search literals. literals ≡ literals };
 
     fn add_hits(
@@ -64,7 +64,7 @@ impl HitSearch for PlainSearch {
         most: usize,
         out: &mut Vec<Hit>,
     ) -> Result<usize, AllocError> {
-        let mut ends = compiled.ends_after(text, from);
+        let mut ends = compiled.prefilter_ends(text, from);
         add_hits_of(&mut ends, text, from, at, most, out)
     }
 }

@@ -4,7 +4,7 @@
 
 mod end_finder;
 mod hit_search;
-mod learning;
+mod optional_finder;
 mod prices;
 mod sampling;
 mod strategy;
@@ -12,11 +12,11 @@ mod text_search;
 mod tuning;
 
 pub use end_finder::EndFinder;
-pub use hit_search::{HitSearch, PlainSearch};
-pub use learning::make_if_long;
+pub use hit_search::{HitSearch, PrefilterSearch};
+pub use optional_finder::make_if_long;
 pub use strategy::Engine;
-pub use text_search::{TextSearch, next_end};
-pub use tuning::{LEAST_LEARNED, LEAST_SAMPLE};
+pub use text_search::{TextSearch, first_end_after};
+pub use tuning::{LEAST_SAMPLE, LEAST_WITH_FINDER};
 
 #[cfg(test)]
 mod tests;

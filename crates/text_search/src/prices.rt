@@ -1,21 +1,22 @@
 //! Measured and estimated costs of searches by the plan and by the automaton, in tenths of a nanosecond.
 
 use crate::tuning::{
-    AUTOMATON_COST, AUTOMATON_GAIN, CANDIDATE_COST, DENSE, LANE_COST, NEAR_STATES, PLAIN_END_COST,
+    AUTOMATON_COST, AUTOMATON_GAIN, CANDIDATE_COST, DENSE, LANE_COST, NEAR_STATES,
+    PREFILTER_END_COST,
 };
 use text_ends::EndRate;
 
 /// The cost of a search by the plan without its prefilter: `missed` false positives, and `ends` ends of a scan. Ends
 /// that stand apart cost more than by factors.
-pub(crate) fn cost_by_plan(missed: usize, ends: usize) -> usize {
+pub(crate) fn cost_by_prefilter(missed: usize, ends: usize) -> usize {
     let misses = missed.saturating_mul(CANDIDATE_COST);
-    misses.saturating_add(ends.saturating_mul(PLAIN_END_COST))
+    misses.saturating_add(ends.saturating_mul(PREFILTER_END_COST))
 }
 
 /// The extra cost of dense ends by factors, for 1,024 bytes. It is 0 if they stand apart.
 pub(crate) fn cost_of_dense_ends(rate: EndRate) -> usize {
     if rate.starts == 0 && rate.ends >= 1024 / DENSE {
-        rate.ends.saturating_mul(PLAIN_END_COST)
+        rate.ends.saturating_mul(PREFILTER_END_COST)
     } else {
         0
     }

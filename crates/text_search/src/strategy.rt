@@ -2,7 +2,8 @@
 //!
 //! | question | when | depends on | function |
 //! |---|---|---|---|
-//! | Does the list need a finder, and has it factors? | once | the number of literals | [`has_use`], [`has_factors`] |
+//! | Does the list gain by a finder, and has this factors? | once | the number of literals | [`has_use`], [`has_factors`] |
+//! | When is the finder of a stream made? | once enough bytes were searched | the bytes, the number of literals | [`make_if_long`](crate::make_if_long) |
 //! | Which engine searches the next bytes, and how many of them? | before a span or a piece | the engine in use, the bytes available | [`Strategy::engine_for`], [`span_after`] |
 //! | Tune now, or gather bytes first? | before each search | the loss, the bytes available, the number of literals | [`Strategy::step`], [`Strategy::tunes_before`], [`least_gathered`] |
 //! | Which engines are worth preparing, and from how much text? | when it tunes | the number of literals, the estimates so far | [`sample_len`], [`wants_automaton_first`], [`wants_shift_or`], [`wants_automaton`] |
@@ -11,9 +12,9 @@
 ghost use Rattle.std.specs.Prelude.{◌<◌, ◌↔◌, IsTrue};
 
 use crate::tuning::{
-    FEW, FEW_BY_MASKS, FIRST_SPANS, LEARNED_COST, LEAST_BY_AUTOMATON, LEAST_CHOSEN, LEAST_GATHERED,
+    FEW, FEW_BY_MASKS, FIRST_SPANS, LEAST_BY_AUTOMATON, LEAST_CHOSEN, LEAST_GATHERED,
     LEAST_GATHERED_OF_FEW, LEAST_LOSS, LEAST_SAMPLE, MOST_BY_FACTORS, MOST_WAIT,
-    MOST_WITHOUT_FINDER, PLAIN_COST, SAMPLE, SAMPLE_OF_FEW, SPAN, SURE,
+    MOST_WITHOUT_FINDER, PREFILTER_SLACK, SAMPLE, SAMPLE_OF_FEW, SPAN, SURE, TUNED_SLACK,
 };
 use factor_search::MASKS_COST;
 use shift_search::SHIFT_OR_COST;
@@ -22,8 +23,8 @@ use text_ends::EndRate;
 /// What searches a text.
 #[derive(Clone, Copy, Debug, PartialEq, Eq)]
 pub enum Engine {
-    /// The plan alone.
-    Plan,
+    /// The prefilter of the plan alone.
+    Prefilter,
     /// Factors of the literals, chosen from a sample.
     Factors,
     /// Shift-or over buckets of the literals.
@@ -108,7 +109,7 @@ pub(crate) fn wants_automaton(by_automaton: usize, by_factors: usize, by_shift_o
 
 /// What an engine may take for 1,024 bytes, given its estimate.
 fn allowed_for(cost: usize) -> usize {
-    cost.saturating_add(cost / 2).saturating_add(LEARNED_COST)
+    cost.saturating_add(cost / 2).saturating_add(TUNED_SLACK)
 }
 
 /// The engine with the lowest of three estimates, and this estimate.
@@ -143,12 +144,12 @@ impl Strategy {
     /// The state before any text.
     pub fn new() -> Strategy {
         Strategy {
-            engine: Engine::Plan,
+            engine: Engine::Prefilter,
             passed: 0,
             spent: 0,
             ends: 0,
             starts: 0,
-            allowed: PLAIN_COST,
+            allowed: PREFILTER_SLACK,
             lost: 0,
             most_lost: LEAST_LOSS,
         }
@@ -160,12 +161,12 @@ impl Strategy {
         self.engine
     }
 
-    /// The engine for the next `rest` bytes of a scan. A short rest goes to the plan.
+    /// The engine for the next `rest` bytes of a scan. A short rest goes to the prefilter.
     #[inline(always)]
     pub fn engine_for(&self, rest: usize) -> Engine {
         match self.engine {
-            Engine::Automaton if rest < LEAST_BY_AUTOMATON => Engine::Plan,
-            _ if rest < LEAST_CHOSEN => Engine::Plan,
+            Engine::Automaton if rest < LEAST_BY_AUTOMATON => Engine::Prefilter,
+            _ if rest < LEAST_CHOSEN => Engine::Prefilter,
             engine => engine,
         }
     }
@@ -189,9 +190,9 @@ impl Strategy {
     }
 
     /// Whether the engine in use was tuned.
-    fn has_learned(&self) -> bool {
+    fn is_tuned(&self) -> bool {
         match self.engine {
-            Engine::Plan => false,
+            Engine::Prefilter => false,
             Engine::Factors | Engine::ShiftOr | Engine::Automaton => true,
         }
     }
@@ -202,10 +203,10 @@ impl Strategy {
         self.lost >= self.most_lost
     }
 
-    /// As `is_due`, in a text with `rest` bytes to go. Under the plan, the loss expected in the rest counts too.
+    /// As `is_due`, in a text with `rest` bytes to go. Under the prefilter, the loss expected in the rest counts too.
     fn is_due_before(&self, rest: usize) -> bool {
         let likely = self.lost.saturating_mul(rest / self.passed.max(1));
-        self.is_due() || !self.has_learned() && likely >= self.most_lost.saturating_mul(SURE)
+        self.is_due() || !self.is_tuned() && likely >= self.most_lost.saturating_mul(SURE)
     }
 
     /// Adds `spent`, the cost of `passed` bytes, and the ends found in them.
@@ -219,9 +220,9 @@ impl Strategy {
         self.lost = self.lost.saturating_add(spent).saturating_sub(allowed);
     }
 
-    /// Takes the three estimates for 1,024 bytes, and changes to the engine with the lowest, unless the plan is in use
-    /// and this is not clearly better. An engine that was not prepared has the estimate `usize::MAX`. The counters begin
-    /// at 0 again.
+    /// Takes the three estimates for 1,024 bytes, and changes to the engine with the lowest, unless the prefilter is in
+    /// use and this is not clearly better. An engine that was not prepared has the estimate `usize::MAX`. The counters
+    /// begin at 0 again.
     pub fn choose(&mut self, by_factors: usize, by_shift_or: usize, by_automaton: usize) {
         let (engine, cost) = best_of(by_factors, by_shift_or, by_automaton);
         let allowed = allowed_for(cost);
@@ -231,7 +232,7 @@ impl Strategy {
         } else {
             self.most_lost.saturating_mul(2).min(LEAST_LOSS * MOST_WAIT)
         };
-        if is_better || self.has_learned() {
+        if is_better || self.is_tuned() {
             self.engine = engine;
             self.allowed = allowed;
         }
@@ -242,12 +243,12 @@ impl Strategy {
         self.lost = 0;
     }
 
-    /// Whether an estimate is clearly better. Under the plan it has to be an eighth below the measured cost. Under
+    /// Whether an estimate is clearly better. Under the prefilter it has to be an eighth below the measured cost. Under
     /// another engine its allowance has to be an eighth below the allowance in use, or below half of the measured cost.
     /// Estimates are often too low: frequent literals cost factors more than a sample shows.
     fn is_better(&self, cost: usize, allowed: usize) -> bool {
         let taken = self.taken();
-        if self.has_learned() {
+        if self.is_tuned() {
             allowed < self.allowed - self.allowed / 8 || allowed < taken / 2
         } else {
             cost < taken - taken / 8
@@ -266,7 +267,7 @@ impl Strategy {
     /// The measured cost of 1,024 bytes since the last choice.
     fn taken(&self) -> usize {
         let taken = self.spent.saturating_mul(1024) / self.passed.max(1);
-        if self.has_learned() {
+        if self.is_tuned() {
             taken
         } else {
             taken.saturating_add(MASKS_COST)

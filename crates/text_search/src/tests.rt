@@ -1,5 +1,5 @@
 //! The engine that a tuned search uses next.
-use crate::prices::{cost_by_automaton, cost_by_plan, cost_of_dense_ends};
+use crate::prices::{cost_by_automaton, cost_by_prefilter, cost_of_dense_ends};
 use crate::strategy::{Engine, Strategy};
 use text_ends::EndRate;
 
@@ -56,12 +56,12 @@ fn keeps_its_engine_until_it_tunes_again(rt: HostRuntime) {
 
 #[test]
 fn takes_ends_that_stand_close_together_for_as_much_by_factors(rt: HostRuntime) {
-    assert_eq!(rt; cost_by_plan(0, 100), 50_000);
-    assert_eq!(rt; cost_by_plan(3, 1), 1_700);
+    assert_eq!(rt; cost_by_prefilter(0, 100), 50_000);
+    assert_eq!(rt; cost_by_prefilter(3, 1), 1_700);
     assert_eq!(rt; cost_of_dense_ends(EndRate::of_scan(340)), 0);
     assert_eq!(rt;
         cost_of_dense_ends(EndRate::of_scan(341)),
-        cost_by_plan(0, 341)
+        cost_by_prefilter(0, 341)
     );
     assert_eq!(rt; cost_of_dense_ends(EndRate::of_searches(341)), 0);
 }

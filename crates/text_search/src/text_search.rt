@@ -4,7 +4,7 @@ ghost use Rattle.text_ends.specs.Walks.{HasGoneOn};
 ghost use Rattle.text_search.specs.Searched.{FindsNext};
 
 use lit_plan::Compiled;
-use prefilter_search::PrefilteredEnds;
+use prefilter_search::PrefilterEnds;
 use std::marker::Model;
 use text_ends::Ends;
 
@@ -13,7 +13,7 @@ use text_ends::Ends;
 #[derive(Drop)]
 pub struct TextSearch<'a> {
     compiled: &'a Compiled,
-    ends: PrefilteredEnds<'a>,
+    ends: PrefilterEnds<'a>,
 }
 
 impl<'a> Model for TextSearch<'a> {
@@ -35,14 +35,14 @@ impl<'a> TextSearch<'a> {
     {
         TextSearch {
             compiled,
-            ends: compiled.ends_after(text, 0),
+            ends: compiled.prefilter_ends(text, 0),
         }
     }
 
     /// The first position of the text after `from` at which some literal ends, wherever it begins, or `None`. It takes
     /// no memory.
     #[inline]
-    pub fn next_end(&mut self, from: usize) -> Option<usize>
+    pub fn next_end_after(&mut self, from: usize) -> Option<usize>
         ensures same { self.new ≡ self.old }
         ensures next { FindsNext self.old.plan.literals self.old.text from result }
     {
@@ -75,10 +75,10 @@ impl<'a> TextSearch<'a> {
 
 /// The first position of the text after `from` at which some literal ends, wherever it begins, or `None`, by the plan
 /// alone. It takes no memory.
-pub fn next_end(compiled: &Compiled, text: &[u8], from: usize) -> Option<usize>
+pub fn first_end_after(compiled: &Compiled, text: &[u8], from: usize) -> Option<usize>
     ensures { FindsNext compiled.now.literals text.now from result }
 {
-    TextSearch::new(compiled, text).next_end(from)
+    TextSearch::new(compiled, text).next_end_after(from)
 }
 
 /// The next end of a walk.

@@ -62,14 +62,14 @@ pub(crate) const DENSE: usize = 3;
 pub(crate) const CANDIDATE_COST: usize = 400;
 
 /// What the plan may take for 1,024 bytes in addition to its filter: one false positive. Not varied.
-pub(crate) const PLAIN_COST: usize = 512;
+pub(crate) const PREFILTER_SLACK: usize = 512;
 
 /// What another engine may take for 1,024 bytes beyond one and a half times its estimate. Not varied.
-pub(crate) const LEARNED_COST: usize = 2048;
+pub(crate) const TUNED_SLACK: usize = 2048;
 
 /// An end of a scan by the plan, less the cost of an end by factors, which continue in the same block. Measured, not
 /// varied.
-pub(crate) const PLAIN_END_COST: usize = 500;
+pub(crate) const PREFILTER_END_COST: usize = 500;
 
 /// The automaton, for 1,024 bytes without ends, while its rows stay in the cache. Measured.
 pub(crate) const AUTOMATON_COST: usize = 9500;
@@ -99,4 +99,4 @@ pub(crate) const SURE: usize = 10;
 
 /// A search has a finder once this many bytes were searched. At two nanoseconds a byte, a slow search of them takes as
 /// long as it takes to make a finder and to tune it. Not varied.
-pub const LEAST_LEARNED: u64 = 262_144;
+pub const LEAST_WITH_FINDER: u64 = 262_144;

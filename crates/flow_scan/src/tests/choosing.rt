@@ -10,7 +10,7 @@ use crate::tests::owning::How;
 use factor_search::{FactorEnds, Factors};
 use lit_base::Fold;
 use lit_plan::Compiled;
-use shift_search::{ShiftOr, ShiftedEnds};
+use shift_search::{ShiftOr, ShiftOrEnds};
 use std::alloc::Global;
 use text_automaton::{Automaton, AutomatonEnds};
 use text_ends::{EndRate, Ends};
@@ -44,7 +44,7 @@ fn by_factors(
     requires { progress.0 ≤ length text.now }
 {
     let mut factors = Factors::new(alloc, compiled.shared_index().ok()?).ok()?;
-    factors.learn(sample, EndRate::nothing());
+    factors.tune(sample, EndRate::nothing());
     let mut ends = FactorEnds::after(&factors, text, progress.0);
     Some(more_ends(&mut ends, text, progress, count))
 }
@@ -59,8 +59,8 @@ fn by_shift_or(
     count: usize,
 ) -> Option<Progress> {
     let mut shift_or = ShiftOr::new(alloc, compiled.shared_index().ok()?).ok()?;
-    shift_or.learn(sample, EndRate::nothing());
-    let mut ends = ShiftedEnds::after(&shift_or, text, progress.0);
+    shift_or.tune(sample, EndRate::nothing());
+    let mut ends = ShiftOrEnds::after(&shift_or, text, progress.0);
     Some(more_ends(&mut ends, text, progress, count))
 }
 
@@ -75,7 +75,7 @@ fn by_automaton(
     requires { progress.0 ≤ length text.now }
 {
     let mut automaton = Automaton::new(alloc, compiled.shared_index().ok()?).ok()?;
-    automaton.learn();
+    automaton.build();
     let mut ends = AutomatonEnds::after(&automaton, text, progress.0)?;
     Some(more_ends(&mut ends, text, progress, count))
 }
@@ -106,7 +106,12 @@ fn changing_in(
         let count = draws.below(100).saturating_add(1);
         let sample = sample_of(draws, text)?;
         progress = match draws.below(5) {
-            0 => more_ends(&mut compiled.ends_after(text, from), text, progress, count),
+            0 => more_ends(
+                &mut compiled.prefilter_ends(text, from),
+                text,
+                progress,
+                count,
+            ),
             1 => more_by_finder(compiled, finder, text, progress, count),
             2 => by_shift_or(alloc, compiled, text, sample, progress, count)?,
             3 => by_automaton(alloc, compiled, text, progress, count)?,

@@ -8,7 +8,7 @@ use lit_base::{Fold, LitList, Profile, RawList};
 use lit_plan::Compiled;
 use run_planner::plan;
 use std::alloc::Global;
-use text_search::{EndFinder, Engine, TextSearch, next_end};
+use text_search::{EndFinder, Engine, TextSearch, first_end_after};
 
 /// The words of texts.
 pub(super) const WORDS: [&[u8]; 12] = [
@@ -151,7 +151,7 @@ pub(super) fn more_by_finder(
 {
     let (mut from, mut summary) = progress;
     'ends: for _ in 0..count {
-        let Some(end) = finder.next_end_of(&mut TextSearch::new(compiled, text), from) else {
+        let Some(end) = finder.next_end_in(&mut TextSearch::new(compiled, text), from) else {
             return (text.len(), summary);
         };
         summary = with_end(summary, end);
@@ -165,7 +165,7 @@ fn add_plain(summary: Summary, compiled: &Compiled, text: &[u8]) -> Summary {
     let mut summary = summary;
     let mut from = 0;
     for _ in 0..=text.len() {
-        let Some(end) = next_end(compiled, text, from) else {
+        let Some(end) = first_end_after(compiled, text, from) else {
             return summary;
         };
         summary = with_end(summary, end);
@@ -175,7 +175,7 @@ fn add_plain(summary: Summary, compiled: &Compiled, text: &[u8]) -> Summary {
 }
 
 /// The ends that a finder finds in the pieces of a text, each a text of its own.
-fn learned_in(compiled: &Compiled, finder: &mut EndFinder, text: &[u8], size: usize) -> Summary
+fn tuned_in(compiled: &Compiled, finder: &mut EndFinder, text: &[u8], size: usize) -> Summary
     requires { finder.old ≡ compiled.now.literals }
     ensures { finder.new ≡ compiled.now.literals }
 {
@@ -206,11 +206,11 @@ pub(super) fn find_the_same(
 {
     let wanted = plain_in(compiled, text, text.len());
     'times: for _ in 0..4 {
-        if learned_in(compiled, finder, text, text.len()) != wanted {
+        if tuned_in(compiled, finder, text, text.len()) != wanted {
             return false;
         }
     }
-    learned_in(compiled, finder, text, size) == plain_in(compiled, text, size)
+    tuned_in(compiled, finder, text, size) == plain_in(compiled, text, size)
 }
 
 /// Whether a finder finds what the plan alone does. The halves of the text consist of the given words, and the literals
@@ -303,8 +303,8 @@ fn finds_them_in_texts_of_few_bytes(rt: HostRuntime) {
 pub(super) fn goes_over_to_factors(compiled: &Compiled, finder: &mut EndFinder, text: &[u8]) -> bool
     requires { finder.old ≡ compiled.now.literals }
 {
-    let first = finder.next_end_of(&mut TextSearch::new(compiled, text), 0);
-    let second = finder.next_end_of(&mut TextSearch::new(compiled, text), 0);
+    let first = finder.next_end_in(&mut TextSearch::new(compiled, text), 0);
+    let second = finder.next_end_in(&mut TextSearch::new(compiled, text), 0);
     first.is_none() && second.is_none() && finder.engine() == Engine::Factors
 }
 

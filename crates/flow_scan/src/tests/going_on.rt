@@ -6,7 +6,7 @@ use crate::tests::owning::How;
 use lit_base::Fold;
 use lit_plan::Compiled;
 use std::alloc::Global;
-use text_search::{EndFinder, TextSearch, next_end};
+use text_search::{EndFinder, TextSearch, first_end_after};
 
 /// The ends that one search of a text by a finder finds, each more than `skip` bytes after the one before.
 fn by_finder(compiled: &Compiled, finder: &mut EndFinder, text: &[u8], skip: usize) -> Summary
@@ -16,7 +16,7 @@ fn by_finder(compiled: &Compiled, finder: &mut EndFinder, text: &[u8], skip: usi
     let (mut summary, mut from) = ((0, 0), 0);
     let mut search = TextSearch::new(compiled, text);
     'ends: for _ in 0..=text.len() {
-        let Some(end) = finder.next_end_of(&mut search, from) else {
+        let Some(end) = finder.next_end_in(&mut search, from) else {
             return summary;
         };
         summary = with_end(summary, end);
@@ -30,7 +30,7 @@ fn by_plan(compiled: &Compiled, text: &[u8], skip: usize) -> Summary {
     let (mut summary, mut from) = ((0, 0), 0);
     let mut search = TextSearch::new(compiled, text);
     'ends: for _ in 0..=text.len() {
-        let Some(end) = search.next_end(from) else {
+        let Some(end) = search.next_end_after(from) else {
             return summary;
         };
         summary = with_end(summary, end);
@@ -43,7 +43,7 @@ fn by_plan(compiled: &Compiled, text: &[u8], skip: usize) -> Summary {
 fn anew(compiled: &Compiled, text: &[u8], skip: usize) -> Summary {
     let (mut summary, mut from) = ((0, 0), 0);
     for _ in 0..=text.len() {
-        let Some(end) = next_end(compiled, text, from) else {
+        let Some(end) = first_end_after(compiled, text, from) else {
             return summary;
         };
         summary = with_end(summary, end);
@@ -58,8 +58,8 @@ pub(super) fn go_on_the_same(compiled: &Compiled, finder: &mut EndFinder, text: 
 {
     'skips: for skip in [0, 1, 7, 31, 61, 62, 63, 64, 65, 66, 127, 128, 129, 1000] {
         let wanted = anew(compiled, text, skip);
-        let learned = by_finder(compiled, finder, text, skip);
-        if by_plan(compiled, text, skip) != wanted || learned != wanted {
+        let tuned = by_finder(compiled, finder, text, skip);
+        if by_plan(compiled, text, skip) != wanted || tuned != wanted {
             return false;
         }
     }

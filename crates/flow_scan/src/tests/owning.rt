@@ -6,7 +6,7 @@ use crate::tests::choosing::changes_the_same;
 use crate::tests::finding::{find_the_same, goes_over_to_factors};
 use crate::tests::going_on::go_on_the_same;
 use crate::tests::scanned::scans_the_same;
-use crate::tests::streamed::{feed_the_same, learns_in_pieces};
+use crate::tests::streamed::{feed_the_same, tunes_in_pieces};
 use lit_plan::Compiled;
 use std::alloc::Global;
 use text_search::EndFinder;
@@ -51,7 +51,7 @@ fn agrees_by(
         How::EndsGoingOn => Some(go_on_the_same(compiled, finder, text)),
         How::Hits => scans_the_same(alloc, compiled, finder, text),
         How::Stream => feed_the_same(alloc, compiled, finder, text),
-        How::StreamTuned(size) => learns_in_pieces(alloc, compiled, finder, text, size),
+        How::StreamTuned(size) => tunes_in_pieces(alloc, compiled, finder, text, size),
         How::Changing(seed) => changes_the_same(alloc, compiled, finder, text, seed),
         How::NearMisses => Some(goes_over_to_factors(compiled, finder, text)),
     }

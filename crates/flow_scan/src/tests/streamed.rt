@@ -89,7 +89,7 @@ fn finds_short_hits_of_a_stream_in_either_case(rt: HostRuntime) {
 }
 
 /// Whether a finder tunes itself to a text in pieces of this length, and finds the text's hits.
-pub(super) fn learns_in_pieces(
+pub(super) fn tunes_in_pieces(
     alloc: Global,
     compiled: &Compiled,
     finder: &mut EndFinder,
@@ -101,18 +101,18 @@ pub(super) fn learns_in_pieces(
     let wanted = scan_all(alloc, compiled, text).ok()?;
     let scanner = Scanner::new(alloc, compiled).ok()?;
     let are_fed = are_fed(scanner, finder, Vec::new(alloc), text, size, &wanted)?;
-    Some(are_fed && finder.engine() != Engine::Plan)
+    Some(are_fed && finder.engine() != Engine::Prefilter)
 }
 
 /// Whether it does in a text of words.
-fn learns(alloc: Global, size: usize) -> Option<bool> {
+fn tunes(alloc: Global, size: usize) -> Option<bool> {
     let how = How::StreamTuned(size);
     agree_in(alloc, how, Fold::No, [&WORDS, &WORDS], 4, 1, 23)
 }
 
 #[test]
-fn learns_from_small_pieces(rt: HostRuntime) {
+fn tunes_to_small_pieces(rt: HostRuntime) {
     for size in [16_384, 4_096, 1_000] {
-        assert_eq!(rt; learns(rt.alloc(), size), Some(true));
+        assert_eq!(rt; tunes(rt.alloc(), size), Some(true));
     }
 }

@@ -50,14 +50,14 @@ fn emitted_by_plan(
     emitted_by(alloc, &mut picker, text)
 }
 
-/// What learns from texts for a plan.
+/// A finder by a plan.
 fn finder_by(alloc: Global, compiled: &Compiled) -> Option<EndFinder>
     ensures { IfSome result (λ list. list ≡ compiled.now.literals) }
 {
     EndFinder::new(alloc, compiled).ok()
 }
 
-/// What one by a search that learns emits.
+/// What one with a finder emits.
 fn emitted_by_finder(
     alloc: Global,
     compiled: &Compiled,
@@ -68,11 +68,11 @@ fn emitted_by_finder(
         return None;
     }
     let mut picker = Picker::new(alloc, Some(compiled), false, rule);
-    picker.learn_by(finder_by(alloc, compiled)?);
+    picker.tune_by(finder_by(alloc, compiled)?);
     emitted_by(alloc, &mut picker, text)
 }
 
-/// What one emits that learns from the middle of the text on.
+/// What one emits that has a finder from the middle of the text on.
 fn emitted_by_late_finder(
     alloc: Global,
     compiled: &Compiled,
@@ -86,10 +86,10 @@ fn emitted_by_late_finder(
     let mut picker = Picker::new(alloc, Some(compiled), false, rule);
     let mut sink = Kept::new(alloc, Mood::Takes);
     picker.feed(prefix, &mut sink).ok()?;
-    picker.learn_by(finder_by(alloc, compiled)?);
+    picker.tune_by(finder_by(alloc, compiled)?);
     picker.feed(rest, &mut sink).ok()?;
     picker.finish(&mut sink).ok()?;
-    if picker.learns() {
+    if picker.tunes() {
         Some(sink.text)
     } else {
         None
@@ -101,30 +101,30 @@ fn emit_the_same(alloc: Global, rule: LineRule) -> Option<bool> {
     let compiled = plan_of_words(alloc)?;
     let text = long_text(alloc)?;
     let plain = emitted_by_plan(alloc, &compiled, rule, &text)?;
-    let learned = emitted_by_finder(alloc, &compiled, rule, &text)?;
+    let tuned = emitted_by_finder(alloc, &compiled, rule, &text)?;
     let late = emitted_by_late_finder(alloc, &compiled, rule, &text)?;
-    let are_alike = plain.as_slice() == learned.as_slice() && plain.as_slice() == late.as_slice();
+    let are_alike = plain.as_slice() == tuned.as_slice() && plain.as_slice() == late.as_slice();
     Some(!plain.is_empty() && are_alike)
 }
 
 #[test]
-fn emits_the_same_lines_as_it_learns(rt: HostRuntime) {
+fn emits_the_same_lines_as_it_tunes(rt: HostRuntime) {
     assert_eq!(rt; emit_the_same(rt.alloc(), PARTS), Some(true));
 }
 
 #[test]
-fn emits_the_same_whole_lines_as_it_learns(rt: HostRuntime) {
+fn emits_the_same_whole_lines_as_it_tunes(rt: HostRuntime) {
     assert_eq!(rt; emit_the_same(rt.alloc(), WHOLE), Some(true));
 }
 
-/// Whether a picker by a plan that was made with what learns hands it back.
+/// Whether a picker that was made with a finder hands it back.
 fn hands_back_by(alloc: Global, compiled: &Compiled) -> Option<bool> {
     if !is_in_lines(compiled) {
         return None;
     }
     let mut picker = Picker::new(alloc, Some(compiled), false, PARTS);
-    picker.learn_by(finder_by(alloc, compiled)?);
-    Some(picker.learns() && picker.into_finder().is_some())
+    picker.tune_by(finder_by(alloc, compiled)?);
+    Some(picker.tunes() && picker.into_finder().is_some())
 }
 
 /// The same by the plan of the tests.
@@ -136,11 +136,11 @@ fn hands_back_a_finder(alloc: Global) -> Option<bool> {
 /// Whether a picker that was made without a finder does.
 fn hands_out_a_finder(alloc: Global) -> bool {
     let picker = Picker::new(alloc, None, true, PARTS);
-    picker.learns() || picker.into_finder().is_some()
+    picker.tunes() || picker.into_finder().is_some()
 }
 
 #[test]
-fn hands_back_what_learned(rt: HostRuntime) {
+fn hands_back_the_finder(rt: HostRuntime) {
     assert_eq!(rt; hands_back_a_finder(rt.alloc()), Some(true));
     assert_eq!(rt; hands_out_a_finder(rt.alloc()), false);
 }

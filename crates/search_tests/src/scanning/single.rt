@@ -1,6 +1,6 @@
 //! Searches for one literal, and for one among two or three.
 use super::plan_of;
-use flow_scan::{Compiled, next_end};
+use flow_scan::{Compiled, first_end_after};
 use lit_base::Fold;
 use std::alloc::{AllocError, Global};
 
@@ -26,10 +26,10 @@ fn text_with(alloc: Global, bytes: &[u8], place: usize, len: usize) -> Result<Ve
 
 /// Whether an end is the only one, for a search from each position.
 fn is_only_end(compiled: &Compiled, text: &[u8], end: usize) -> bool {
-    next_end(compiled, text, 0) == Some(end)
-        && next_end(compiled, text, end / 2) == Some(end)
-        && next_end(compiled, text, end.saturating_sub(1)) == Some(end)
-        && next_end(compiled, text, end).is_none()
+    first_end_after(compiled, text, 0) == Some(end)
+        && first_end_after(compiled, text, end / 2) == Some(end)
+        && first_end_after(compiled, text, end.saturating_sub(1)) == Some(end)
+        && first_end_after(compiled, text, end).is_none()
 }
 
 /// Whether the plan finds these bytes at a place of a text, and there alone.
@@ -66,7 +66,7 @@ fn finds(alloc: Global, fold: Fold, literals: &[&[u8]], bytes: &[u8]) -> Option<
 /// Where a literal ends first in a text, case-sensitive.
 fn first_end(alloc: Global, literal: &[u8], text: &[u8]) -> Option<Option<usize>> {
     let compiled = plan_of(alloc, Fold::No, &[literal])?;
-    Some(next_end(&compiled, text, 0))
+    Some(first_end_after(&compiled, text, 0))
 }
 
 #[test]

@@ -1,6 +1,6 @@
 //! Where scans stop after enough hits.
 use super::{PRONOUNS, plan_of};
-use flow_scan::{Compiled, EndFinder, PlainSearch, Scanner, scan_until};
+use flow_scan::{Compiled, EndFinder, PrefilterSearch, Scanner, scan_until};
 use lit_base::Fold;
 use std::alloc::Global;
 
@@ -12,13 +12,13 @@ fn by_feeding(alloc: Global, compiled: &Compiled, piece: &[u8], most: usize) -> 
     let mut hits = Vec::new(alloc);
     let mut scanner = Scanner::new(alloc, compiled).ok()?;
     let count = scanner
-        .feed_until(&mut PlainSearch, piece, most, &mut hits)
+        .feed_until(&mut PrefilterSearch, piece, most, &mut hits)
         .ok()?;
     Some((count, hits.len()))
 }
 
 /// Where a scanner with a finder stops in a piece.
-fn by_learning(alloc: Global, compiled: &Compiled, piece: &[u8], most: usize) -> Option<Stop> {
+fn by_tuning(alloc: Global, compiled: &Compiled, piece: &[u8], most: usize) -> Option<Stop> {
     let mut hits = Vec::new(alloc);
     let mut scanner = Scanner::new(alloc, compiled).ok()?;
     let mut finder = EndFinder::new(alloc, compiled).ok()?;
@@ -29,7 +29,7 @@ fn by_learning(alloc: Global, compiled: &Compiled, piece: &[u8], most: usize) ->
 /// Where a scan stops in a text.
 fn by_scanning(alloc: Global, compiled: &Compiled, text: &[u8], most: usize) -> Option<Stop> {
     let mut hits = Vec::new(alloc);
-    let stop = scan_until(&mut PlainSearch, compiled, text, 0, most, &mut hits).ok()?;
+    let stop = scan_until(&mut PrefilterSearch, compiled, text, 0, most, &mut hits).ok()?;
     Some((stop, hits.len()))
 }
 
@@ -37,9 +37,9 @@ fn by_scanning(alloc: Global, compiled: &Compiled, text: &[u8], most: usize) -> 
 fn stops_in(alloc: Global, literals: &[&[u8]], text: &[u8], most: usize) -> Option<[Stop; 3]> {
     let compiled = plan_of(alloc, Fold::No, literals)?;
     let fed = by_feeding(alloc, &compiled, text, most)?;
-    let learned = by_learning(alloc, &compiled, text, most)?;
+    let tuned = by_tuning(alloc, &compiled, text, most)?;
     let scanned = by_scanning(alloc, &compiled, text, most)?;
-    Some([fed, learned, scanned])
+    Some([fed, tuned, scanned])
 }
 
 #[test]

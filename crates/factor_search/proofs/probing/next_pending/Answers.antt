@@ -24,8 +24,8 @@ pub probe_passing-requires : goal.probe_passing-requires
 probe_passing-requires c = record {
   inside = λ k few set. omega (arith, few, c.blocks-2-test.true);
   all = λ place end occurs after inside.
-      passes c.args.factors.now (widened c.masks.result.now) c.args.text.now c.blocks-2.at c.marks-passing.result c.masks.ensures c.within_law.ensures (all_bytes c.args.text.now c.type_inv.text)
-      (rw c.new-filter.ensures at c.marks-passing.ensures) place end occurs after (omega (arith, inside));
+      passes c.args.factors.now (widened c.masks.result.now) c.args.text.now c.blocks-2.at c.passing-passing.result c.masks.ensures c.within_law.ensures (all_bytes c.args.text.now c.type_inv.text)
+      (rw c.new-filter.ensures at c.passing-passing.ensures) place end occurs after (omega (arith, inside));
 }
 
 pub returns-then-passing-hash_bits-ne0-clause-pending : goal.returns-then-passing-hash_bits-ne0-clause-pending
@@ -39,10 +39,10 @@ blocks-2-preserved c =
     let at : ℕ = c.blocks-2.at in
     let before = c.blocks-2.invariant in
     let none = c.if-passing-hash_bits-ne0.false in
-    let none_passing : c.marks-passing.result ≡ 0 = omega (arith, le_or_l c.marks-passing.result c.args.hash_bits, none) in
-    let unmarked : c.args.hash_bits ≡ 0 = omega (arith, le_or_r c.marks-passing.result c.args.hash_bits, none) in
+    let none_passing : c.passing-passing.result ≡ 0 = omega (arith, le_or_l c.passing-passing.result c.args.hash_bits, none) in
+    let unmarked : c.args.hash_bits ≡ 0 = omega (arith, le_or_r c.passing-passing.result c.args.hash_bits, none) in
     let further = λ (from : ℕ) (first : ArePending w text from seen (seen + 1) c.args.hash_bits).
-    none_passes w (widened c.masks.result.now) text at c.marks-passing.result c.masks.ensures c.within_law.ensures (all_bytes text c.type_inv.text) (rw c.new-filter.ensures at c.marks-passing.ensures) from at none_passing
+    none_passes w (widened c.masks.result.now) text at c.passing-passing.result c.masks.ensures c.within_law.ensures (all_bytes text c.type_inv.text) (rw c.new-filter.ensures at c.passing-passing.ensures) from at none_passing
     (subst (λ (m : ℕ). ArePending w text from at (at + 1) m) unmarked (before.pending from first)) in
     record {
       prefix = omega (arith, before.prefix);

@@ -24,7 +24,7 @@ returns-in-Some c =
     let plan = option_copied c.args.self.plan in
     let q = c.in-Some.compiled.now in
     let normal = subst IsNormal c.list.ensures c.normal_law.ensures in
-    c.is_some.ensures ∙ ends-matches q.literals normal c.args.line.now c.next_end.result c.next_end.ensures
+    c.is_some.ensures ∙ ends-matches q.literals normal c.args.line.now c.first_end_after.result c.first_end_after.ensures
     ∙ by_plan false c.args.line.now plan q (ap option_copied c.in-Some.is)
     ∙ sym (null-misses (fold_of plan) false c.args.self.has_empty (literals_of plan) c.args.line.now
     (λ is. let both : true ≡ false = sym is ∙ c.if-self.false in absurd (cc)))

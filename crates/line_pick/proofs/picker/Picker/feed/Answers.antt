@@ -23,7 +23,7 @@ on_more (Err halt) e p = absurd (answer_to-More halt e)
 
 -- a picker as shown
 abbrev shown : Option Plan → Bool → LineRule → Bool → Bool → List ℕ → ℕ → ℕ → State → Bool → Picking
-shown plan has_empty rule is_numbered has_bytes held lines bytes state learns = record { plan = plan; has_empty = has_empty; rule = rule; is_numbered = is_numbered; has_bytes = has_bytes; held = held; lines = lines; bytes = bytes; state = state; learns = learns }
+shown plan has_empty rule is_numbered has_bytes held lines bytes state tunes = record { plan = plan; has_empty = has_empty; rule = rule; is_numbered = is_numbered; has_bytes = has_bytes; held = held; lines = lines; bytes = bytes; state = state; tunes = tunes }
 
 same-picking : (plan : Option Plan) (has_empty : Bool) (rule : LineRule) (h : List ℕ) (f : Bool) {k k' : Bool} {y y' : Bool} {l l' b b' : ℕ} {s s' : State} → k ≡ k' → y ≡ y' → l ≡ l' → b ≡ b' → s ≡ s' → shown plan has_empty rule k y h l b s f ≡ shown plan has_empty rule k' y' h l' b' s' f
 same-picking plan has_empty rule h f {k' = k'} {y = y} {y' = y'} {l = l} {l' = l'} {b = b} {b' = b'} {s = s} numbered seen lines bytes state =

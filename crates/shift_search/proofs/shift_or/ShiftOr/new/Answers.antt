@@ -1,7 +1,7 @@
 -- There is room for all entries, and none is made.
 use Rattle.std.proofs.Common.{length, ap, ◌∙◌, subst, arith}
 use Rattle.lit_base.specs.Literals.{Literals}
-use Rattle.shift_search.specs.ShiftOr.{AreConfirmsOf}
+use Rattle.shift_search.specs.ShiftOr.{AreBucketChecksOf}
 use Rattle.shift_search.proofs.shift_or.ShiftOr.new.Goals as goal
 
 pub invariant_of-result : goal.invariant_of-result
@@ -10,5 +10,5 @@ invariant_of-result c =
       omega (arith, c.in_ok-entries.ensures.exact),
       λ some. absurd (omega (arith, some, c.in_ok-entries.ensures.len)),
       omega (arith, c.cut_runs.ensures, c.in_ok-buckets.ensures.len, c.len.ensures.value, ap (λ (l : Literals). length l.texts) same),
-      subst (λ (l : Literals). AreConfirmsOf l c.cut_runs.new.buckets.items c.in_ok-confirms.confirms) same c.in_ok-confirms.ensures,
+      subst (λ (l : Literals). AreBucketChecksOf l c.cut_runs.new.buckets.items c.in_ok-checks.checks) same c.in_ok-checks.ensures,
     )

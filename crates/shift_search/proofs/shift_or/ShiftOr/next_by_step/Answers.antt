@@ -56,8 +56,8 @@ returns-in-Some-verify_four g c =
     c.in-Some-verify_four.ensures c.args.start (omega (arith, before.near)) (λ end later within. before.none end later (omega (arith, within)))
 
 -- where they leave ends but no literal ends there
-pub skip_blocks-passed-requires-clause-passed : goal.skip_blocks-passed-requires-clause-passed
-skip_blocks-passed-requires-clause-passed g c =
+pub pass_blocks-passed-requires-clause-passed : goal.pass_blocks-passed-requires-clause-passed
+pass_blocks-passed-requires-clause-passed g c =
     let b = c.args.self.now in
     let text = c.args.text.now in
     let start = c.args.start in

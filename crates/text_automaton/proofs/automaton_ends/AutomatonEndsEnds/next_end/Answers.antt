@@ -2,4 +2,4 @@
 use Rattle.text_automaton.proofs.automaton_ends.AutomatonEndsEnds.next_end.Goals as goal
 
 pub returns-clause-next : goal.returns-clause-next
-returns-clause-next c = rw (← c.self.view_is) c.next_end-found.ensures.next
+returns-clause-next c = rw (← c.self.view_is) c.next_with_state-found.ensures.next

@@ -4,8 +4,8 @@ use Rattle.text_search.specs.Searched.{Searched}
 use Rattle.text_lines.proofs.AfterLines.{after-len, rest-next, rest-none}
 use Rattle.text_lines.proofs.hit_line.HitLines.first_end.Goals as goal
 
-pub next_end-requires : goal.next_end-requires
-next_end-requires c = subst (λ (s : Searched). IfSome c.self.inside.finder (λ list. list ≡ s.plan.literals)) (sym c.self.invariant.by_plan) c.self.invariant.learner
+pub next_end_by-requires : goal.next_end_by-requires
+next_end_by-requires c = subst (λ (s : Searched). IfSome c.self.inside.finder (λ list. list ≡ s.plan.literals)) (sym c.self.invariant.by_plan) c.self.invariant.serves
 
 pub returns-in_err-end-clause-next : goal.returns-in_err-end-clause-next
 returns-in_err-end-clause-next c =

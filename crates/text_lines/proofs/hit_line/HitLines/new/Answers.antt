@@ -6,7 +6,7 @@ use Rattle.text_lines.proofs.hit_line.HitLines.new.Goals as goal
 
 pub invariant_of-result : goal.invariant_of-result
 invariant_of-result c = record {
-  learner = c.requires.finder;
+  serves = c.requires.finder;
   by_plan = c.new.ensures;
   after = after-nothing c.args.text.now;
   closed = c.requires.closed;

@@ -11,7 +11,7 @@ invariant_of-self c =
     let hit = c.in_ok-hit.hit in
     let first = subst (λ (s : HitSearch). IsFirstHitLine s.plan.literals s.rest hit.missed.now hit.line.now hit.after.now) (sym c.first.ensures.same ∙ sym c.self.view_is) c.in_ok-hit.ensures.hit in
     record {
-      learner = c.self.invariant.learner;
+      serves = c.self.invariant.serves;
       by_plan = c.self.invariant.by_plan;
       after = after-hit l c.self.inside.text.now rest hit.missed.now hit.line.now hit.after.now c.self.invariant.after first;
       closed = hit-closed first c.self.invariant.closed;

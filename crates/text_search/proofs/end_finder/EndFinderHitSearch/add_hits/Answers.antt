@@ -12,7 +12,7 @@ returns-in_err-stop-in-Factors-Some-clause-hits c =
       ok = search rules;
       same_hits = search rules;
       quiet = λ none.
-          absurd (false≢true ((rw (ap (λ (w : Walk). w.literals) c.after-ends.ensures ∙ same ∙ c.self.view_is ∙ c.learn_if_due.ensures ∙ c.requires.plan) at c.in_err-stop-in-Factors-Some.ensures.quiet) none));
+          absurd (false≢true ((rw (ap (λ (w : Walk). w.literals) c.after-ends.ensures ∙ same ∙ c.self.view_is ∙ c.tune_if_due.ensures ∙ c.requires.plan) at c.in_err-stop-in-Factors-Some.ensures.quiet) none));
     }
 
 pub returns-in_err-stop-in-ShiftOr-default-clause-hits : goal.returns-in_err-stop-in-ShiftOr-default-clause-hits
@@ -20,7 +20,7 @@ returns-in_err-stop-in-ShiftOr-default-clause-hits c = record {
   ok = search rules;
   same_hits = search rules;
   quiet = λ none.
-      absurd (false≢true ((rw (ap (λ (w : Walk). w.literals) c.after-ends-in-ShiftOr-default.ensures ∙ c.self.view_is ∙ c.learn_if_due.ensures ∙ c.requires.plan) at c.in_err-stop-in-ShiftOr-default.ensures.quiet) none));
+      absurd (false≢true ((rw (ap (λ (w : Walk). w.literals) c.after-ends-in-ShiftOr-default.ensures ∙ c.self.view_is ∙ c.tune_if_due.ensures ∙ c.requires.plan) at c.in_err-stop-in-ShiftOr-default.ensures.quiet) none));
 }
 
 pub returns-in_err-stop-in_default-clause-hits : goal.returns-in_err-stop-in_default-clause-hits
@@ -28,5 +28,5 @@ returns-in_err-stop-in_default-clause-hits c = record {
   ok = search rules;
   same_hits = search rules;
   quiet = λ none.
-      absurd (false≢true ((rw (ap (λ (w : Walk). w.literals) c.ends_after-ends.ensures) at c.in_err-stop-in_default.ensures.quiet) none));
+      absurd (false≢true ((rw (ap (λ (w : Walk). w.literals) c.prefilter_ends-ends.ensures) at c.in_err-stop-in_default.ensures.quiet) none));
 }

@@ -1,0 +1,18 @@
+-- The chosen factors have their hash bits, and the masks fit them.
+use Rattle.std.proofs.Common.{length, ap, ◌∙◌, subst, arith}
+use Rattle.lit_base.specs.Literals.{Literals}
+use Rattle.nib_mask.specs.Prefixes.{CoversPrefixes}
+use Rattle.nib_mask.specs.Halves.{widened}
+use Rattle.factor_search.specs.Factors.{AreMarkedByFactors}
+use Rattle.factor_search.proofs.factors.Factors.tune.Goals as goal
+
+pub invariant_of-self : goal.invariant_of-self
+invariant_of-self c =
+    let same = c.list-list.ensures ∙ c.deref.ensures in
+    let count = ap (λ (l : Literals). length l.texts) same in (
+      c.self.invariant.0,
+      subst (λ (l : Literals). AreMarkedByFactors l c.mark_all.new.offsets.items c.mark_all.new.hash_bits.items (length l.texts)) same c.mark_all.ensures,
+      subst (λ (l : Literals). CoversPrefixes l (length l.texts) c.mark_all.new.offsets.items (widened c.masks_of-self-inside.result)) same c.masks_of-self-inside.ensures.masks,
+      omega (arith, c.masks_of-self-inside.ensures.buckets, c.self.invariant.3),
+      omega (arith, c.count.ensures),
+    )

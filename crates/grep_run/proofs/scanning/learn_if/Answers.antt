@@ -1,9 +1,0 @@
--- A picker with a finder from now on is otherwise the same.
-use Rattle.std.proofs.Common.{Bool, sym, ap, ◌∙◌}
-use Rattle.line_pick.specs.Picking.{Picking}
-use Rattle.grep_run.proofs.scanning.learn_if.Goals as goal
-
-pub returns-in-Some : goal.returns-in-Some
-returns-in-Some c =
-    let p : Picking = c.args.picker.now in
-    c.learn_by.ensures ∙ ap (λ (learns : Bool). record p { learns = learns }) (sym (ap (λ (q : Picking). q.learns) c.learn_by.ensures))

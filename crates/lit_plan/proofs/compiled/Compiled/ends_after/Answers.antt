@@ -1,5 +1,0 @@
--- The prefilter is one for the plan's literals.
-use Rattle.lit_plan.proofs.compiled.Compiled.ends_after.Goals as goal
-
-pub after-requires-clause-covers : goal.after-requires-clause-covers
-after-requires-clause-covers c = rw c.index.ensures c.prefilter.ensures

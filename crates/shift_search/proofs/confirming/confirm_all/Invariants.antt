@@ -1,8 +1,0 @@
-use Rattle.list_index.specs.HashBits.{AreKeyBits}
-use Rattle.shift_search.specs.ShiftOr.{bucket_at, bucket_key}
-use Rattle.shift_search.specs.declared.confirming.TheConstants.{CONFIRM_BITS}
-use Rattle.shift_search.proofs.confirming.confirm_all.Given as goal
-
--- the literals passed have their bits, and nothing else has
-abbrev pub invariant-loop-place : goal.invariant-loop-place
-invariant-loop-place l = AreKeyBits CONFIRM_BITS (bucket_key l.list l.buckets.items l.widths.items) (bucket_at l.buckets.items) l.place l.table.items

@@ -1,7 +1,0 @@
--- The finder's list is the plan's.
-use Rattle.std.proofs.Common.{◌≡◌, Option, IfSome, subst}
-use Rattle.lit_base.specs.Literals.{Literals}
-use Rattle.text_lines.proofs.hit_line.next_end.Goals as goal
-
-pub next_end_of-requires : goal.next_end_of-requires
-next_end_of-requires c = subst (λ (o : Option Literals). IfSome o (λ list. list ≡ c.args.search.now.plan.literals)) c.in-Some.is c.requires
