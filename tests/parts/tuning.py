@@ -20,7 +20,7 @@ SHAPES = {
     "scan_core": {"few.rt": {"ROOM"}, "limits.rt": {"MAX_PLANS", "MAX_STREAMS"}},
     "shift_search": {
         "blocks.rt": {"GROUP", "GROUPS"},
-        "confirming.rt": {"CONFIRM_BITS"},
+        "bucket_checks.rt": {"CHECK_BITS"},
         "entries.rt": {"ALL", "BUCKETS", "ENTRIES", "PLACES"},
         "runs.rt": {"WEIGHTS"},
         "shift_or.rt": {"FIRST"},
