@@ -88,6 +88,7 @@ pub extern "C" fn fiolargu_plan_save(
     ensures plan { plan.new.held ≡ plan.old.held }
     ensures saved { result ≡ OK → IfSome (plan_of plan.old.held) (λ p. take len.new buffer.new ≡ spelling Two (p ∷ [])) }
     ensures file { result ≡ OK → IfSome (plan_of plan.old.held) (λ p. IsFile (take len.new buffer.new) (p ∷ [])) }
+    ensures fits { result ≡ OK → len.new ≤ length buffer.old }
     ensures room { result ≡ SMALL_BUFFER → IfSome (plan_of plan.old.held) (λ p. (len.new ≡ length (spelling Two (p ∷ []))) × (length buffer.old < len.new)) }
     ensures null { result ≡ NULL_HANDLE ↔ plan.old.held ≡ None }
     ensures after { result ≡ OK → drop len.new buffer.new ≡ drop len.new buffer.old }
@@ -107,6 +108,7 @@ pub extern "C" fn fiolargu_plan_save(
 fn save(alloc: Global, plan: &Compiled, buffer: &mut [u8], len: &mut usize) -> i32
     ensures saved { result ≡ OK → take len.new buffer.new ≡ spelling Two (plan.now ∷ []) }
     ensures file { result ≡ OK → IsFile (take len.new buffer.new) (plan.now ∷ []) }
+    ensures fits { result ≡ OK → len.new ≤ length buffer.old }
     ensures room { result ≡ SMALL_BUFFER → (len.new ≡ length (spelling Two (plan.now ∷ []))) × (length buffer.old < len.new) }
     ensures not_null { result ≡ NULL_HANDLE → ⊥ }
     ensures after { result ≡ OK → drop len.new buffer.new ≡ drop len.new buffer.old }

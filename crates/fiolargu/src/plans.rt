@@ -36,13 +36,15 @@ pub extern "C" fn fiolargu_plan_new(
     ensures accepted { result ≡ OK → first_refusal 0 0 (bytes_of patterns.now) ≡ None }
     ensures numbers { result ≡ OK → length patterns.now ≤ length literal_of.old
         → AreNumbersOf flags (bytes_of patterns.now) (take (length patterns.now) literal_of.new) }
-    ensures after { result ≡ OK → drop (length patterns.now) literal_of.new ≡ drop (length patterns.now) literal_of.old }
+    ensures after { drop (length patterns.now) literal_of.new ≡ drop (length patterns.now) literal_of.old }
+    ensures unwritten { (result ≡ OK → ⊥) → (result ≡ OUT_OF_MEMORY → ⊥) → literal_of.new ≡ literal_of.old }
     ensures same { (result ≡ OK → ⊥) → plan.new.held ≡ plan.old.held }
     ensures fault { result ≡ LITERAL_TOO_LONG → first_refusal 0 0 (bytes_of patterns.now) ≡ Some (LiteralTooLong fault_at.new) }
     ensures no_fault { (result ≡ LITERAL_TOO_LONG → ⊥) → fault_at.new ≡ 0 }
     ensures many { result ≡ TOO_MANY_PATTERNS → first_refusal 0 0 (bytes_of patterns.now) ≡ Some TooManyPatterns }
     ensures large { result ≡ LIST_TOO_LARGE → first_refusal 0 0 (bytes_of patterns.now) ≡ Some ListTooLarge }
     ensures none { result ≡ NO_LITERALS → length (normal_form (fold_of flags) (bytes_of patterns.now)) ≡ 0 }
+    ensures unrefused { result ≡ NO_LITERALS → first_refusal 0 0 (bytes_of patterns.now) ≡ None }
     ensures flags { result ≡ OUT_OF_RANGE ↔ (3 < flags) }
     ensures room { flags ≤ 3 → result ≡ SMALL_BUFFER ↔ ((0 < length literal_of.old) × (length literal_of.old < length patterns.now)) }
     ensures refused { (result ≡ OK) ⊎ ((result ≡ OUT_OF_RANGE) ⊎ ((result ≡ SMALL_BUFFER) ⊎ IsListStatus result)) }
@@ -88,6 +90,7 @@ pub extern "C" fn fiolargu_plan_of_lines(
     ensures many { result ≡ TOO_MANY_PATTERNS → text_refusal [] text.now (lines text.now) ≡ Some TooManyPatterns }
     ensures large { result ≡ LIST_TOO_LARGE → text_refusal [] text.now (lines text.now) ≡ Some ListTooLarge }
     ensures none { result ≡ NO_LITERALS → length (normal_form (fold_of flags) (lines text.now)) ≡ 0 }
+    ensures unrefused { result ≡ NO_LITERALS → text_refusal [] text.now (lines text.now) ≡ None }
     ensures flags { result ≡ OUT_OF_RANGE ↔ (3 < flags) }
     ensures refused { (result ≡ OK) ⊎ ((result ≡ OUT_OF_RANGE) ⊎ IsListStatus result) }
 {
@@ -194,6 +197,7 @@ pub extern "C" fn fiolargu_plan_literal(
     ensures literal { result ≡ OK → IfSome (plan_of plan.old.held) (λ p. slice_get p.literals.texts literal ≡ Some (take len.new buffer.new)) }
     ensures null { result ≡ NULL_HANDLE ↔ plan.old.held ≡ None }
     ensures range { IfSome (plan_of plan.old.held) (λ p. result ≡ OUT_OF_RANGE ↔ (length p.literals.texts ≤ literal)) }
+    ensures fits { result ≡ OK → len.new ≤ length buffer.old }
     ensures room { result ≡ SMALL_BUFFER → IfSome (plan_of plan.old.held) (λ p. IsSomeAnd (slice_get p.literals.texts literal) (λ text. (len.new ≡ length text) × (length buffer.old < len.new))) }
     ensures after { result ≡ OK → drop len.new buffer.new ≡ drop len.new buffer.old }
     ensures same { (result ≡ OK → ⊥) → buffer.new ≡ buffer.old }
@@ -213,6 +217,7 @@ fn write_literal(plan: &Compiled, literal: usize, buffer: &mut [u8], len: &mut u
     ensures literal { result ≡ OK → slice_get plan.now.literals.texts literal ≡ Some (take len.new buffer.new) }
     ensures not_null { result ≡ NULL_HANDLE → ⊥ }
     ensures range { result ≡ OUT_OF_RANGE ↔ (length plan.now.literals.texts ≤ literal) }
+    ensures fits { result ≡ OK → len.new ≤ length buffer.old }
     ensures room { result ≡ SMALL_BUFFER → IsSomeAnd (slice_get plan.now.literals.texts literal) (λ text. (len.new ≡ length text) × (length buffer.old < len.new)) }
     ensures after { result ≡ OK → drop len.new buffer.new ≡ drop len.new buffer.old }
     ensures same { (result ≡ OK → ⊥) → buffer.new ≡ buffer.old }
@@ -229,6 +234,7 @@ fn write_literal(plan: &Compiled, literal: usize, buffer: &mut [u8], len: &mut u
 pub(crate) fn write_bytes(bytes: &[u8], buffer: &mut [u8], len: &mut usize) -> i32
     ensures written { result ≡ OK → take len.new buffer.new ≡ bytes.now }
     ensures len { len.new ≡ length bytes.now }
+    ensures fits { result ≡ OK → len.new ≤ length buffer.old }
     ensures room { result ≡ OK ↔ (length bytes.now ≤ length buffer.old) }
     ensures small { (result ≡ OK) ⊎ (result ≡ SMALL_BUFFER) }
     ensures not_null { result ≡ NULL_HANDLE → ⊥ }

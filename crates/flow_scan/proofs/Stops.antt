@@ -13,7 +13,7 @@ use Rattle.flow_scan.proofs.TailSteps.{added_in_place}
 
 -- a search that stopped in the first bytes of a piece, after a tail
 pub stopped_in_prefix : (l : Literals) (tail piece : List ℕ) (carry at most stop : ℕ) (old new : List (ℕ × ℕ)) → StopsAt l (tail ++ take carry piece) (length tail) at most stop old new
-    → (stop - length tail < length piece → length old + most ≤ length new) → StopsIn l tail piece at most (stop - length tail) old new
+    → (stop - length tail < length piece → length old + (most - 1) < length new) → StopsIn l tail piece at most (stop - length tail) old new
 stopped_in_prefix l tail piece carry at most stop old new search enough = record {
   within = omega (arith, search.after, search.within, length-append tail (take carry piece), length-take carry piece);
   gained = subst (λ t. GainsHitsAfter l t (length tail) at old new) (prefix_after tail piece carry stop search.after search.within) search.gained;
@@ -24,7 +24,7 @@ stopped_in_prefix l tail piece carry at most stop old new search enough = record
 
 -- a search that reached the end of the first bytes, and stopped in the piece in place
 pub stopped_in_place : (l : Literals) (tail piece : List ℕ) (at most stop count : ℕ) (old middle new : List (ℕ × ℕ)) → HasBounds l
-    → StopsAt l (tail ++ take (carry_of l) piece) (length tail) at most stop old middle → length middle - length old < most
+    → StopsAt l (tail ++ take (carry_of l) piece) (length tail) at most stop old middle → length middle ≤ length old + (most - 1)
     → StopsAt l piece (carry_of l) (at + carry_of l) (most - (length middle - length old)) count middle new → StopsIn l tail piece at most count old new
 stopped_in_place l tail piece at most stop count old middle new bounds first few second =
     let carry = carry_of l in

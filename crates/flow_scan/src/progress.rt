@@ -141,6 +141,7 @@ fn add_piece<S: HitSearch>(
     ensures quiet { NoEndAfter compiled.now.literals (boundary.now.tail ++ piece.now) (length boundary.now.tail) → IsOk result }
 {
     let before = out.len();
+    let enough = most.max(1);
     let stop = search.add_hits(
         compiled,
         boundary.text(),
@@ -150,7 +151,7 @@ fn add_piece<S: HitSearch>(
         out,
     )?;
     let gained = out.len() - before;
-    if gained >= most {
+    if gained >= enough {
         return Ok(stop - boundary.tail_len());
     }
     if piece.len() <= boundary.ahead() {

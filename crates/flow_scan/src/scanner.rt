@@ -65,9 +65,9 @@ impl<'p> Scanner<'p> {
         Ok(())
     }
 
-    /// Feeds the next piece up to the first end by which `out` gained at least `most` hits, or all of it. Adds the hits
-    /// that end in the fed bytes, and returns how many bytes were fed. So `out` gains at most `most` hits and one for
-    /// each literal.
+    /// Feeds the next piece up to the first end by which `out` gained at least `most` hits (0 counts as 1), or all of
+    /// it. Adds the hits that end in the fed bytes, and returns how many bytes were fed. So `out` gains at most `most`
+    /// hits and one for each literal.
     ///
     /// The search has the scan's plan: it is `PrefilterSearch`, or a finder that tunes itself to the pieces and may serve
     /// any number of scans by this plan. The hits do not depend on it.

@@ -57,7 +57,7 @@ pub fn scan_after<S: HitSearch>(
 }
 
 /// Adds to `out` the hits of a text that end after `from`, up to the first end by which `out` gained at least `most`
-/// hits. Returns this end, or the text's length. A scan from there continues with the next hit. So `out` gains at most
+/// hits (0 counts as 1). Returns this end, or the text's length. A scan from there continues with the next hit. So `out` gains at most
 /// `most` hits and one for each literal. They do not depend on the search.
 ///
 /// The only refusal is `OutOfMemory`, which comes only if a literal ends after `from`. It leaves `out` unchanged.

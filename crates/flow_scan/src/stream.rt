@@ -56,9 +56,9 @@ impl Stream {
         &self.plan
     }
 
-    /// Feeds the next piece up to the first end by which `out` gained at least `most` hits, or all of it. Adds the hits
-    /// that end in the fed bytes: in order, each once, their ends counted from the scan's base. Returns how many bytes
-    /// were fed.
+    /// Feeds the next piece up to the first end by which `out` gained at least `most` hits (0 counts as 1), or all of
+    /// it. Adds the hits that end in the fed bytes: in order, each once, their ends counted from the scan's base.
+    /// Returns how many bytes were fed.
     ///
     /// Refusals: `StreamTooLong` if the position would pass 2^64 - 1 with the whole piece, and `OutOfMemory`, which
     /// comes only if a literal ends in the piece. A refusal leaves the scan and `out` unchanged.

@@ -86,6 +86,7 @@ impl Outbox {
     fn flush_full<W: ByteOut>(&mut self, out: &mut W) -> Result<(), Stop>
         ensures ok { OnOk result (Sends (W.written out.old) (W.written out.new) self.old self.new []) }
         ensures err { OnErr result (SendsLess (W.written out.old) (W.written out.new) self.old []) }
+        ensures stopped { OnErr result (result ≡ Err Stop.WriteFault) }
         ensures fault { result ≡ Err Stop.WriteFault → IsTrue (W.has_failed out.new) }
         ensures flag { result ≢ Err Stop.WriteFault → W.has_failed out.new ≡ W.has_failed out.old }
         ensures few { OnOk result (length self.new < 65536) }
@@ -103,6 +104,7 @@ impl Outbox {
         ensures empty { OnOk result (self.new ≡ []) }
         ensures ok { OnOk result (Sends (W.written out.old) (W.written out.new) self.old self.new []) }
         ensures err { OnErr result (SendsLess (W.written out.old) (W.written out.new) self.old []) }
+        ensures stopped { OnErr result (result ≡ Err Stop.WriteFault) }
         ensures fault { result ≡ Err Stop.WriteFault → IsTrue (W.has_failed out.new) }
         ensures flag { result ≢ Err Stop.WriteFault → W.has_failed out.new ≡ W.has_failed out.old }
     {

@@ -11,7 +11,7 @@ use Rattle.text_ends.specs.HitsAfter.{AreHitsAfter, GainsHitsAfter, StopsAt}
 use Rattle.text_ends.proofs.HitLists.{gained_both, gained_more, hits_further, hits_joined, hits_none, none_past}
 
 -- a search that gained fewer hits than it asked for reached the text's end
-pub to_end : (l : Literals) (text : List ℕ) (from at most stop : ℕ) (old new : List (ℕ × ℕ)) → StopsAt l text from at most stop old new → length new < length old + most → stop ≡ length text
+pub to_end : (l : Literals) (text : List ℕ) (from at most stop : ℕ) (old new : List (ℕ × ℕ)) → StopsAt l text from at most stop old new → length new ≤ length old + (most - 1) → stop ≡ length text
 to_end l text from at most stop old new search few = elim (cases_lt stop (length text)) [
   | inl sooner ↦ absurd (omega (arith, search.enough sooner, few))
   | inr there ↦ omega (arith, there, search.within)
@@ -59,7 +59,7 @@ same_number most old middle more room = omega (arith, more, room)
 -- and it stops at the end of the text or after enough hits
 pub stopped_further : (l : Literals) (text : List ℕ) (from m span most stop : ℕ) (old middle new : List (ℕ × ℕ)) → from ≤ m → span ≤ length text → length middle ≤ length old + (most - 1)
     → GainsHitsAfter l (take m text) from from old middle → StopsAt l (take span text) m m (most - (length middle - length old)) stop middle new
-    → (stop < length text → length old + most ≤ length new) → StopsAt l text from from most stop old new
+    → (stop < length text → length old + (most - 1) < length new) → StopsAt l text from from most stop old new
 stopped_further l text from m span most stop old middle new starts within room early late enough =
     let more = gained_more old middle early.found early.grown in
     record {
@@ -75,7 +75,7 @@ stopped_further l text from m span most stop old middle new starts within room e
 
 -- a search of a span that gained too few hits reached its end
 pub span_end : (l : Literals) (text : List ℕ) (m span most stop : ℕ) (old middle new : List (ℕ × ℕ)) → span ≤ length text → length old ≤ length middle → length middle ≤ length old + (most - 1)
-    → StopsAt l (take span text) m m (most - (length middle - length old)) stop middle new → length new - length old < most → stop ≡ span
+    → StopsAt l (take span text) m m (most - (length middle - length old)) stop middle new → length new ≤ length old + (most - 1) → stop ≡ span
 span_end l text m span most stop old middle new within more room late few =
     to_end l (take span text) m m (most - (length middle - length old)) stop middle new late (omega (arith, few, more, room)) ∙ length-take span text ∙ omega (arith, within)
 

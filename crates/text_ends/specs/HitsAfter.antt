@@ -15,12 +15,12 @@ pub record GainsHitsAfter (l : Literals) (text : List ℕ) (from at : ℕ) (old 
   pub grown : new ≡ old ++ found
   pub added : AreHitsAfter l text from at found
 
--- a search through a text has stopped at a position: a list of hits has gained those up to there. It stopped before the text's end only after it had gained `most`. It stopped at the first such position: the hits from the `most`th on end there
+-- a search through a text has stopped at a position: a list of hits has gained those up to there. It stopped before the text's end only after it had gained `most`, or one where `most` is 0. It stopped at the first such position: the hits from the `most`th on end there
 pub record StopsAt (l : Literals) (text : List ℕ) (from at most stop : ℕ) (old new : List (ℕ × ℕ)) : Type 0 where
   pub after : from ≤ stop
   pub within : stop ≤ length text
   pub gained : GainsHitsAfter l (take stop text) from at old new
-  pub enough : stop < length text → length old + most ≤ length new
+  pub enough : stop < length text → length old + (most - 1) < length new
   pub least : (hit : ℕ × ℕ) → Contains (drop (length old + (most - 1)) new) hit → hit.1 ≡ at + (stop - from)
   pub few : length new ≤ length old + (most - 1) + length l.texts
 

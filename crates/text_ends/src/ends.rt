@@ -41,9 +41,9 @@ pub trait Ends {
         ensures kept { Extends out.old.items out.new.items };
 }
 
-/// Adds the hits that end in the text after `from`, up to the first end by which `out` gained at least `most` hits. The
-/// walk starts at `from`, which counts as `at`. Returns this end, or the text's length. Memory is refused only after a
-/// hit was found; `out` is then unchanged.
+/// Adds the hits that end in the text after `from`, up to the first end by which `out` gained at least `most` hits (0
+/// counts as 1). The walk starts at `from`, which counts as `at`. Returns this end, or the text's length. Memory is
+/// refused only after a hit was found; `out` is then unchanged.
 pub fn add_hits_of<E: Ends>(
     ends: &mut E,
     text: &[u8],
@@ -61,12 +61,13 @@ pub fn add_hits_of<E: Ends>(
     ensures quiet { NoEndAfter (E.walk ends.old).literals text.now from → IsOk result }
 {
     let before = out.len();
+    let enough = most.max(1);
     while let Some((end, number)) = ends.next_end() {
         if let Err(refused) = ends.add_hits_at(end, number, at + (end - from) as u64, out) {
             out.truncate(before);
             return Err(refused);
         }
-        if out.len() - before >= most {
+        if out.len() - before >= enough {
             return Ok(end);
         }
     }

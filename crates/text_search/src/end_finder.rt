@@ -327,6 +327,7 @@ impl HitSearch for EndFinder {
         out: &mut Vec<Hit>,
     ) -> Result<usize, AllocError> {
         let before = out.len();
+        let enough = most.max(1);
         let mut place = from;
         'spans: while place < text.len() {
             self.tune_if_sure(compiled, text, place);
@@ -342,7 +343,7 @@ impl HitSearch for EndFinder {
                     return Err(refused);
                 }
             }
-            if out.len() - before >= most {
+            if out.len() - before >= enough {
                 return Ok(place);
             }
         }

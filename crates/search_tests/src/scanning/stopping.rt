@@ -50,6 +50,18 @@ fn stops_at_the_first_end_with_enough_hits(rt: HostRuntime) {
 }
 
 #[test]
+fn stops_at_an_end_where_no_hit_is_wanted(rt: HostRuntime) {
+    let alloc = rt.alloc();
+    let mut text = Vec::new(alloc);
+    assert!(rt; text.resize(70_000, b'.').is_ok());
+    text[69_000] = b'a';
+    assert_eq!(rt;
+        stops_in(alloc, &[b"a"], &text, 0),
+        Some([(69_001, 1); 3])
+    );
+}
+
+#[test]
 fn adds_all_hits_of_the_end_where_it_stops(rt: HostRuntime) {
     let alloc = rt.alloc();
     for (most, stop) in [(1, (4, 2)), (2, (4, 2)), (3, (6, 3))] {

@@ -24,7 +24,7 @@ returns-in-Ok-plan_of-clause-numbers c = λ _ room.
 
 -- After the numbers of the patterns the buffer is as it was.
 pub returns-in-Ok-plan_of-clause-after : goal.returns-in-Ok-plan_of-clause-after
-returns-in-Ok-plan_of-clause-after c = λ _.
+returns-in-Ok-plan_of-clause-after c =
     let made = c.in-Ok-plan_of.made in
     let places = c.in-Ok-plan_of.places.items in
     let raw : c.in-Ok.raw ≡ bytes_of c.args.patterns.now = c.in-Ok.ensures.ok in

@@ -29,12 +29,12 @@ at_boundary g c =
     subst (λ t. StopsAt c.args.compiled.now.literals (c.args.boundary.now.tail ++ t) (length c.args.boundary.now.tail) c.args.at c.args.most c.in_ok-stop.stop c.args.out.now.items c.add_hits.new.out.items) c.requires.prefix.first
     (rw (c.text.ensures, c.tail_len.ensures) at c.in_ok-stop.ensures.hits.ok)
 
-pub returns-then-gained-most-clause-ok : goal.returns-then-gained-most-clause-ok
-returns-then-gained-most-clause-ok g c =
+pub returns-then-gained-enough-clause-ok : goal.returns-then-gained-enough-clause-ok
+returns-then-gained-enough-clause-ok g c =
     let gained = c.in_ok-stop.ensures.hits.ok.gained in
     let more = gained_more c.args.out.now.items c.add_hits.new.out.items gained.found gained.grown in
-    rw c.tail_len-then-gained-most.ensures (stopped_in_prefix c.args.compiled.now.literals c.args.boundary.now.tail c.args.piece.now (length c.args.boundary.now.prefix) c.args.at c.args.most c.in_ok-stop.stop c.args.out.now.items c.add_hits.new.out.items
-    (at_boundary g (goal.at.returns-then-gained-most-clause-ok g c).In_ok-stop) (λ _. omega (arith, more, c.if-gained-most.true, c.len.ensures, c.len-before.ensures, c.args.out.now.ok.0, c.add_hits.new.out.ok.0)))
+    rw c.tail_len-then-gained-enough.ensures (stopped_in_prefix c.args.compiled.now.literals c.args.boundary.now.tail c.args.piece.now (length c.args.boundary.now.prefix) c.args.at c.args.most c.in_ok-stop.stop c.args.out.now.items c.add_hits.new.out.items
+    (at_boundary g (goal.at.returns-then-gained-enough-clause-ok g c).In_ok-stop) (λ _. omega (arith, more, c.if-gained-enough.true, c.max-enough.ensures, c.len.ensures, c.len-before.ensures, c.args.out.now.ok.0, c.add_hits.new.out.ok.0)))
 
 pub returns-then-piece-ahead-clause-ok : goal.returns-then-piece-ahead-clause-ok
 returns-then-piece-ahead-clause-ok g c =
@@ -57,4 +57,4 @@ returns-in-Ok-clause-ok g c =
     let second : StopsAt l c.args.piece.now (carry_of l) (c.args.at + carry_of l) (c.args.most - (length middle - length old)) c.in-Ok.stop middle new =
     rw (c.carry-carry.ensures.value, gained) at c.in-Ok.ensures.hits.ok in
     stopped_in_place l c.args.boundary.now.tail c.args.piece.now c.args.at c.args.most c.in_ok-stop.stop c.in-Ok.stop old middle new c.carry-carry.ensures.bounds
-    first (omega (arith, gained, c.if-gained-most.false)) second
+    first (omega (arith, gained, c.if-gained-enough.false, c.max-enough.ensures)) second

@@ -68,7 +68,7 @@ loop-end-preserved g c =
       text = same_text g at;
       ahead = omega (arith, there, next.after, c.loop-end.invariant.ahead);
       within = omega (arith, there, next.within);
-      few = omega (arith, c.len-before.ensures);
+      few = omega (arith, c.len-before.ensures, c.max-enough.ensures);
       gained = subst (λ (m : ℕ). GainsHitsAfter (first g at).literals (take m c.args.text.now) c.args.from c.args.at c.args.out.now.items c.add_hits_at.new.out.items) (sym there) (further g at);
     }
 
@@ -85,7 +85,7 @@ returns-then-len-before-clause-ok g c =
       after = omega (arith, next.after, c.loop-end.invariant.ahead);
       within = next.within;
       gained = all;
-      enough = λ _. omega (arith, more, c.len-before.ensures, c.args.out.now.ok.0, c.add_hits_at.new.out.ok.0);
+      enough = λ _. omega (arith, more, c.len-before.ensures, c.max-enough.ensures, c.args.out.now.ok.0, c.add_hits_at.new.out.ok.0);
       least = λ hit inside.
           let here = gained g at in
           ((here.added.members hit.0 hit.1).0 (gained_late _ c.loop-end.out.items c.add_hits_at.new.out.items here.found hit c.loop-end.invariant.few here.grown inside)).0;

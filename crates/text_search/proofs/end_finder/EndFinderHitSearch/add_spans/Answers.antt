@@ -48,7 +48,7 @@ returns-then-len-before-clause-hits c =
     record {
       ok = stopped_further c.args.compiled.now.literals c.args.text.now c.args.from c.spans.place c.min-stop.result c.args.most c.in-Ok.end c.args.out.now.items c.spans.out.items c.add_hits.new.out.items
           before.ahead (omega (arith, c.min-stop.ensures)) before.few before.gained (span at)
-          (λ _. omega (arith, c.if-len-before.true, c.len-in-spans.ensures, c.len-before.ensures, c.args.out.now.ok.0, c.add_hits.new.out.ok.0, more at, longer at));
+          (λ _. omega (arith, c.if-len-before.true, c.max-enough.ensures, c.len-in-spans.ensures, c.len-before.ensures, c.args.out.now.ok.0, c.add_hits.new.out.ok.0, more at, longer at));
       same_hits = tt;
       quiet = λ _. refl;
     }
@@ -59,7 +59,7 @@ to_end c =
     let at = (goal.at.spans-preserved c).In-Ok in
     span_end c.args.compiled.now.literals c.args.text.now c.spans.place c.min-stop.result c.args.most c.in-Ok.end c.args.out.now.items c.spans.out.items c.add_hits.new.out.items
     (omega (arith, c.min-stop.ensures)) (more at) c.spans.invariant.few (span at)
-    (omega (arith, c.if-len-before.false, c.len-in-spans.ensures, c.len-before.ensures, c.args.out.now.ok.0, c.add_hits.new.out.ok.0))
+    (omega (arith, c.if-len-before.false, c.max-enough.ensures, c.len-in-spans.ensures, c.len-before.ensures, c.args.out.now.ok.0, c.add_hits.new.out.ok.0))
 
 pub spans-preserved : goal.spans-preserved
 spans-preserved c =
@@ -70,7 +70,7 @@ spans-preserved c =
       finder = c.in-Ok.ensures.plan;
       ahead = omega (arith, search.after, before.ahead);
       within = omega (arith, to_end c, c.min-stop.ensures);
-      few = omega (arith, c.if-len-before.false, c.len-in-spans.ensures, c.len-before.ensures, c.args.out.now.ok.0, c.add_hits.new.out.ok.0, more at, longer at);
+      few = omega (arith, c.if-len-before.false, c.max-enough.ensures, c.len-in-spans.ensures, c.len-before.ensures, c.args.out.now.ok.0, c.add_hits.new.out.ok.0, more at, longer at);
       gained = span_gained c.args.compiled.now.literals c.args.text.now c.args.from c.spans.place c.min-stop.result _ c.in-Ok.end c.args.out.now.items c.spans.out.items c.add_hits.new.out.items
           before.ahead (omega (arith, c.min-stop.ensures)) before.gained search;
     }
