@@ -1,6 +1,7 @@
 //! Exports that search texts in memory, and what writes hits for C.
 ghost use Rattle.std.specs.Prelude.{◌≡◌, ◌-◌, ◌≤◌, ◌<◌, ◌⊎◌, ◌↔◌, ℕ, [], IfSome, None, Some, drop, length, map, take};
 ghost use Rattle.std.specs.List.{slice_get};
+ghost use Rattle.lit_base.specs.NextEnds.{NoEndAfter};
 ghost use Rattle.text_ends.specs.HitsAfter.{StopsAt};
 ghost use Rattle.fiolargu.specs.Found.{HaveLengths, IsNextOrNone, hit_of, length_of, plan_of};
 ghost use Rattle.fiolargu.specs.declared.statuses.TheConstants.{NULL_HANDLE, OK, OUT_OF_MEMORY, OUT_OF_RANGE, SMALL_BUFFER};
@@ -72,6 +73,7 @@ pub extern "C" fn fiolargu_scan(
     ensures inside { result ≡ OK → place.old ≤ length text.now }
     ensures same { (result ≡ OK → ⊥) → (place.new ≡ place.old) × (count.new ≡ 0) }
     ensures starved { result ≡ OUT_OF_MEMORY → place.old ≤ length text.now }
+    ensures quiet { IfSome (plan_of plan.old.held) (λ p. NoEndAfter p.literals text.now place.old → result ≡ OUT_OF_MEMORY → ⊥) }
     ensures refused { (result ≡ OK) ⊎ ((result ≡ NULL_HANDLE) ⊎ ((result ≡ SMALL_BUFFER) ⊎ ((result ≡ OUT_OF_RANGE) ⊎ (result ≡ OUT_OF_MEMORY)))) }
 {
     *count = 0;
@@ -104,6 +106,7 @@ fn scan_held(
     ensures inside { result ≡ OK → place.old ≤ length text.now }
     ensures same { (result ≡ OK → ⊥) → (place.new ≡ place.old) × (count.new ≡ count.old) }
     ensures starved { result ≡ OUT_OF_MEMORY → place.old ≤ length text.now }
+    ensures quiet { NoEndAfter held.old.plan.literals text.now place.old → result ≡ OUT_OF_MEMORY → ⊥ }
     ensures refused { (result ≡ OK) ⊎ ((result ≡ SMALL_BUFFER) ⊎ ((result ≡ OUT_OF_RANGE) ⊎ (result ≡ OUT_OF_MEMORY))) }
 {
     let most = most_of(held.plan.plan(), buffer);
