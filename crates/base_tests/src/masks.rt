@@ -157,9 +157,9 @@ fn gives_the_ninth_bucket_a_bit_of_its_own(rt: HostRuntime) -> Result<(), Fail> 
     let found = found.ok_or("the ends are a cut")?;
     assert_eq!(rt; (found.low[2][9], found.high[2][6]), (0x100, 0x1FF));
     assert_eq!(rt; filter_number(&found, b'x', b'x', b'i'), 0x100);
-    assert_eq!(rt; found.first_eight().plain(b'x', b'x', b'i'), 0);
-    assert_eq!(rt; found.last_eight().plain(b'x', b'x', b'i'), 1);
-    assert_eq!(rt; found.first_eight().plain(b'x', b'x', b'h'), 0x80);
+    assert_eq!(rt; found.first_eight().filter_byte(b'x', b'x', b'i'), 0);
+    assert_eq!(rt; found.last_eight().filter_byte(b'x', b'x', b'i'), 1);
+    assert_eq!(rt; found.first_eight().filter_byte(b'x', b'x', b'h'), 0x80);
     Ok(())
 }
 
@@ -183,11 +183,11 @@ fn prefixes_of(
 fn marks_prefixes_in_their_own_buckets_alone(rt: HostRuntime) -> Result<(), Fail> {
     let found = prefixes_of(rt.alloc(), Fold::No, "abc xyzt", &[0, 1], &[0, 9])?;
     let found = found.ok_or("there is a bucket for each word")?;
-    assert_eq!(rt; found.plain(b'a', b'b', b'c'), 1);
-    assert_eq!(rt; found.plain(b'x', b'y', b'z'), 2);
-    assert_eq!(rt; found.plain(b'a', b'y', b'c'), 0);
-    assert_eq!(rt; found.plain(b'y', b'z', b't'), 0);
-    assert_eq!(rt; found.plain(b'A', b'b', b'c'), 0);
+    assert_eq!(rt; found.filter_byte(b'a', b'b', b'c'), 1);
+    assert_eq!(rt; found.filter_byte(b'x', b'y', b'z'), 2);
+    assert_eq!(rt; found.filter_byte(b'a', b'y', b'c'), 0);
+    assert_eq!(rt; found.filter_byte(b'y', b'z', b't'), 0);
+    assert_eq!(rt; found.filter_byte(b'A', b'b', b'c'), 0);
     Ok(())
 }
 
@@ -195,7 +195,7 @@ fn marks_prefixes_in_their_own_buckets_alone(rt: HostRuntime) -> Result<(), Fail
 fn marks_short_prefixes_in_either_case(rt: HostRuntime) -> Result<(), Fail> {
     let found = prefixes_of(rt.alloc(), Fold::Ascii, "ab", &[0], &[3])?;
     let found = found.ok_or("there is a bucket for the word")?;
-    assert_eq!(rt; found.plain(b'.', b'a', b'B'), 8);
-    assert_eq!(rt; found.plain(b'.', b'b', b'b'), 0);
+    assert_eq!(rt; found.filter_byte(b'.', b'a', b'B'), 8);
+    assert_eq!(rt; found.filter_byte(b'.', b'b', b'b'), 0);
     Ok(())
 }

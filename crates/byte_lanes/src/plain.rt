@@ -14,7 +14,7 @@ pub(crate) fn is_candidate(masks: &ByteMasks, text: &[u8], end: usize) -> bool
 {
     let third = byte_before(text, end, 3);
     let second = byte_before(text, end, 2);
-    masks.plain(third, second, text[end - 1]) != 0
+    masks.filter_byte(third, second, text[end - 1]) != 0
 }
 
 /// The byte `back` places before an end, zero before the text.

@@ -37,7 +37,7 @@ fn count_passed(masks: &ByteMasks, sample: &[u8]) -> (usize, usize) {
     for stretch in sample.chunks(SPARSE) {
         if let [third, second, last, ..] = stretch {
             all = all.saturating_add(1);
-            if masks.plain(*third, *second, *last) != 0 {
+            if masks.filter_byte(*third, *second, *last) != 0 {
                 passed = passed.saturating_add(1);
             }
         }

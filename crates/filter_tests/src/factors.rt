@@ -61,7 +61,7 @@ fn passes(factors: &Factors, text: &[u8], at: usize) -> bool {
     let third = byte_before(text, at, 3);
     let second = byte_before(text, at, 2);
     let last = byte_before(text, at, 1);
-    factors.masks().plain(third, second, last) != 0
+    factors.masks().filter_byte(third, second, last) != 0
 }
 
 /// Whether the position `back` before an end passes the masks, and its hash bits have the end.

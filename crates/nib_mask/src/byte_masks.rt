@@ -54,7 +54,7 @@ impl Masks {
 impl ByteMasks {
     /// The filter byte of three bytes.
     #[tactic(auto, unfolding(crate::specs::Tables::table_value))]
-    pub fn plain(&self, a: u8, b: u8, c: u8) -> u8
+    pub fn filter_byte(&self, a: u8, b: u8, c: u8) -> u8
         ensures { result ≡ table_value (widened self.now) a b c }
     {
         self.byte_at(0, a) & self.byte_at(1, b) & self.byte_at(2, c)
