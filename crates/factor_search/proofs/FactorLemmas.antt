@@ -1,14 +1,12 @@
 -- Factors: a text has the hash bits of each literal that ends in it, at the literal's offset.
-use Rattle.std.proofs.Common.{◌≡◌, ℕ, ◌+◌, ◌-◌, ◌<◌, ◌≤◌, ◌++◌, List, length, replicate, sym, ap, ◌∙◌, subst, arith}
+use Rattle.std.proofs.Common.{◌≡◌, ℕ, ◌+◌, ◌-◌, ◌≤◌, List, length, sym, ap, ◌∙◌, subst, arith}
 use Rattle.std.specs.Int.{bit_at}
-use Rattle.std.specs.Int.Bits.{or_zero_r}
-use Rattle.std.specs.List.{slice_index, slice_range}
+use Rattle.std.specs.List.{slice_index}
 use Rattle.std.proofs.lemmas.Option.{slice_get_within}
 use Rattle.lit_base.specs.declared.fold.Fold.{Fold}
-use Rattle.lit_base.specs.declared.fold.Fold.TheVariants.{No}
 use Rattle.list_index.specs.declared.suffixes.hash_bits.TheConstants.{HASH_BITS}
 use Rattle.list_index.specs.HashBits.{HasBit}
-use Rattle.list_index.specs.Suffixes.{hash_of, masked_key, spelled, suffix_key}
+use Rattle.list_index.specs.Suffixes.{hash_of, masked_key, suffix_key}
 use Rattle.list_index.proofs.SuffixLemmas.{AreBytes, key-occurs_inside, literal_is}
 use Rattle.factor_search.specs.declared.widths.TheConstants.{WIDTH}
 use Rattle.factor_search.specs.Widths.{IsLeastWidth, width_at}
@@ -35,10 +33,3 @@ hash_bits_are w fold least hash_bits text at result same fits are bytes known pl
 pub read_width : (hash_bits : List ℕ) (word case n width found back : ℕ) → found ≡ slice_index hash_bits (hash_of HASH_BITS (masked_key word n case)) → n ≡ width
     → HasBit hash_bits (hash_of HASH_BITS (masked_key word width case)) back → bit_at found back ≡ 1
 read_width hash_bits word case n width found back is same marked = ap (λ m. bit_at m back) (is ∙ ap (λ k. slice_index hash_bits (hash_of HASH_BITS (masked_key word k case))) same) ∙ marked
-
--- where case counts, the key of all bytes before one of the first positions is what they spell
-pub word_of_key : (text : List ℕ) (at : ℕ) → at < 8 → suffix_key No text at at ≡ spelled (replicate (8 - at) 0 ++ slice_range text (at - (8 - (8 - at))) at)
-unfolding suffix_key
-word_of_key text at few =
-    let same : at - at ≡ at - (8 - (8 - at)) = omega arith in
-    or_zero_r (spelled (replicate (8 - at) 0 ++ slice_range text (at - at) at)) ∙ ap (λ (from : ℕ). spelled (replicate (8 - at) 0 ++ slice_range text from at)) same

@@ -1,8 +1,8 @@
 //! The factors by which literals are searched for.
-ghost use Rattle.std.specs.Prelude.{◌≡◌, ℕ, ◌+◌, ◌^◌, ◌<◌, ◌≤◌, ◌++◌, ◌-◌, IfOk, length, replicate, slice_index, slice_range, vec_len};
+ghost use Rattle.std.specs.Prelude.{◌≡◌, ℕ, ◌+◌, ◌^◌, ◌<◌, ◌≤◌, IfOk, length, slice_index, vec_len};
 ghost use Rattle.std.specs.Int.{bit_at};
 ghost use Rattle.list_index.specs.HashBits.{HasBit};
-ghost use Rattle.list_index.specs.Suffixes.{hash_of, masked_key, spelled, suffix_key};
+ghost use Rattle.list_index.specs.Suffixes.{hash_of, masked_key, suffix_key};
 ghost use Rattle.list_index.specs.declared.suffixes.hash_bits.TheConstants.{HASH_BITS};
 ghost use Rattle.nib_mask.specs.Prefixes.{CoversPrefixes};
 ghost use Rattle.nib_mask.specs.Halves.{widened};
@@ -16,7 +16,7 @@ use crate::marking::mark_all;
 use crate::prices::cost_of_masks;
 use crate::tuning::{MARK_COST, START_COST};
 use crate::widths::{WIDTH, least_width, widths_from};
-use list_index::{HASH_BITS, ListIndex, case_bits, hash_of, last_word, masked_key, suffix_key};
+use list_index::{HASH_BITS, ListIndex, case_bits, hash_of, masked_key, word_before};
 use lit_base::{Fold, LitList};
 use nib_mask::ByteMasks;
 use std::alloc::{AllocError, Global};
@@ -173,21 +173,6 @@ fn hash_bits_of_widths(hash_bits: &Vec<u8>, fold: Fold, least: usize, text: &[u8
     }
     let long = hash_bits_of(hash_bits, word, WIDTH, case_bits);
     found | long
-}
-
-/// What the eight bytes before a position spell. Zeros stand for bytes before the text.
-#[inline(always)]
-fn word_before(text: &[u8], at: usize) -> u64
-    requires { at ≤ length text.now }
-    ensures { result ≡ spelled (replicate (8 - at) 0 ++ slice_range text.now (at - (8 - (8 - at))) at) }
-{
-    if at >= 8 {
-        return last_word(text, at);
-    }
-    if at == 0 {
-        return 0;
-    }
-    suffix_key(Fold::No, text, at, at)
 }
 
 /// The hash bits of the last `width` of eight bytes.

@@ -21,10 +21,7 @@ pub fn suffix_key(fold: Fold, text: &[u8], end: usize, width: usize) -> u64
     requires inside { end ≤ length text.now }
     ensures { result ≡ suffix_key fold text.now end width }
 {
-    if end < 8 {
-        return padded_word(&text[end - width..end]) | case_bits(fold);
-    }
-    masked_key(last_word(text, end), width, case_bits(fold))
+    masked_key(word_before(text, end), width, case_bits(fold))
 }
 
 /// The key of the last `width` of the eight bytes that a word spells.
@@ -45,6 +42,19 @@ fn suffix_mask(width: usize) -> u64
     ensures { result ≡ suffix_mask width }
 {
     u64::MAX << (8 * (8 - width))
+}
+
+/// What the eight bytes before `end` spell. Zeros stand for bytes before the text.
+#[inline(always)]
+pub fn word_before(text: &[u8], end: usize) -> u64
+    requires { end ≤ length text.now }
+    ensures { result ≡ spelled (replicate (8 - end) 0 ++ slice_range text.now (end - (8 - (8 - end))) end) }
+{
+    if end < 8 {
+        padded_word(&text[..end])
+    } else {
+        last_word(text, end)
+    }
 }
 
 /// What the eight bytes before `end` spell.
