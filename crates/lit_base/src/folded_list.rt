@@ -1,9 +1,8 @@
 //! Folded literals, and whether one of them ends at a position of a text.
 ghost use Rattle.std.specs.Prelude.{◌≡◌, ◌<◌, ◌≤◌, ◌↔◌, IsTrue, length, slice_index_or};
-ghost use Rattle.lit_base.specs.Folding.{folded_text};
 ghost use Rattle.lit_base.specs.Occurrences.{Occurs};
 
-use crate::fold::{Fold, fold_byte};
+use crate::fold::{Fold, equals_folded};
 use crate::literal::Literal;
 use std::marker::Model;
 
@@ -63,27 +62,7 @@ impl FoldedList {
         ensures { IsTrue result ↔ Occurs self.now text.now place end }
     {
         let literal = self.get(place);
-        literal.len() <= end && is_folded(self.folding, &text[end - literal.len()..end], literal)
+        literal.len() <= end
+            && equals_folded(self.folding, &text[end - literal.len()..end], literal)
     }
-}
-
-/// Whether the text, folded, is the literal.
-fn is_folded(fold: Fold, text: &[u8], literal: &[u8]) -> bool
-    ensures { IsTrue result ↔ (folded_text fold text.now ≡ literal.now) }
-{
-    match fold {
-        Fold::No => text == literal,
-        Fold::Ascii => is_folded_by_bytes(Fold::Ascii, text, literal),
-    }
-}
-
-/// Whether a text is folded, byte by byte.
-fn is_folded_by_bytes(fold: Fold, text: &[u8], literal: &[u8]) -> bool
-    ensures { IsTrue result ↔ (folded_text fold text.now ≡ literal.now) }
-{
-    text.len() == literal.len()
-        && text
-            .iter()
-            .zip(literal.iter())
-            .all(|(byte, folded)| fold_byte(fold, *byte) == *folded)
 }

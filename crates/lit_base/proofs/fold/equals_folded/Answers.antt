@@ -3,7 +3,7 @@ use Rattle.std.proofs.Common.{◌≡◌, sym, ap, ◌∙◌}
 use Rattle.std.proofs.lemmas.Slice.Eq.{bytes_eq-Decides}
 use Rattle.lit_base.specs.Folding.{folded_text}
 use Rattle.lit_base.proofs.FoldLemmas.{unfolded}
-use Rattle.lit_base.proofs.folded_list.is_folded.Goals as goal
+use Rattle.lit_base.proofs.fold.equals_folded.Goals as goal
 
 pub returns-in-No : goal.returns-in-No
 returns-in-No c =
