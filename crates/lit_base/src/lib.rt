@@ -4,7 +4,6 @@
 mod costs;
 mod fault;
 mod fold;
-mod folded_list;
 mod laws;
 mod limits;
 mod lines;

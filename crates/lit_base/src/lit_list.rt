@@ -9,8 +9,8 @@ ghost use Rattle.lit_base.specs.declared.fault.Fault.TheVariants.{OutOfMemory};
 ghost use Rattle.lit_base.specs.declared.limits.TheConstants.{MAX_LITERALS};
 
 use crate::fault::Fault;
-use crate::fold::Fold;
-use crate::folded_list::FoldedList;
+use crate::fold::{Fold, equals_folded};
+use crate::literal::Literal;
 use crate::normal_form::{distinct, has_null, in_order, places};
 use crate::raw_list::RawList;
 use std::alloc::Global;
@@ -19,7 +19,8 @@ use std::marker::Model;
 /// Literals in normal form: nonempty, folded, each once, ordered by length and then by bytes.
 #[derive(Debug, Drop)]
 pub struct LitList {
-    literals: FoldedList,
+    fold: Fold,
+    literals: Vec<Literal>,
 }
 
 impl Model for LitList {
@@ -27,9 +28,9 @@ impl Model for LitList {
 
     ghost Value = { Literals };
 
-    ghost view = { λ l. l.literals };
+    ghost view = { λ l. record { folding = l.fold; texts = l.literals.items } };
 
-    ghost invariant = { λ l. IsNormal l.literals };
+    ghost invariant = { λ l. IsNormal (record { folding = l.fold; texts = l.literals.items }) };
 }
 
 impl LitList {
@@ -47,9 +48,7 @@ impl LitList {
     {
         let literals = in_order(alloc, distinct(alloc, raw, fold)?)?;
         let place_of = places(alloc, raw, fold, literals.as_slice())?;
-        let list = LitList {
-            literals: FoldedList::new(fold, literals),
-        };
+        let list = LitList { fold, literals };
         let has_empty = has_null(raw);
         Ok((
             list,
@@ -70,9 +69,7 @@ impl LitList {
         ensures err { IfErr result (λ fault. fault ≡ OutOfMemory) }
     {
         let literals = literals.into_literals(alloc)?;
-        Ok(LitList {
-            literals: FoldedList::new(fold, literals),
-        })
+        Ok(LitList { fold, literals })
     }
 
     /// How many literals there are.
@@ -89,7 +86,7 @@ impl LitList {
     pub fn is_empty(&self) -> bool
         ensures { IsTrue result ↔ (self.now.texts ≡ []) }
     {
-        self.literals.len() == 0
+        self.literals.is_empty()
     }
 
     /// The fold that the literals are compared under.
@@ -97,7 +94,7 @@ impl LitList {
     pub fn fold(&self) -> Fold
         ensures { result ≡ self.now.folding }
     {
-        self.literals.folding()
+        self.fold
     }
 
     /// The length of the shortest literal, which is the first.
@@ -106,7 +103,8 @@ impl LitList {
         ensures first { result ≡ slice_index (lengths self.now) 0 }
         ensures least { All (λ len. result ≤ len) (lengths self.now) }
     {
-        self.literals.get(0).len()
+        self.normal_law();
+        self.get(0).len()
     }
 
     /// The length of the longest literal, which is the last, or 0 if there is none.
@@ -114,10 +112,11 @@ impl LitList {
         ensures last { result ≡ slice_index (lengths self.now) (length self.now.texts - 1) }
         ensures greatest { All (λ len. len ≤ result) (lengths self.now) }
     {
-        if self.literals.len() == 0 {
+        self.normal_law();
+        if self.is_empty() {
             return 0;
         }
-        self.literals.get(self.literals.len() - 1).len()
+        self.get(self.len() - 1).len()
     }
 
     /// The law that the literals are in normal form.
@@ -134,7 +133,8 @@ impl LitList {
         requires inside { end ≤ length text.now }
         ensures { IsTrue result ↔ Occurs self.now text.now place end }
     {
-        self.literals.ends_at(place, text, end)
+        let literal = self.get(place);
+        literal.len() <= end && equals_folded(self.fold, &text[end - literal.len()..end], literal)
     }
 
     /// The literal at a place.
@@ -145,7 +145,7 @@ impl LitList {
         ensures len { length result.now ≡ slice_index (lengths self.now) place }
         ensures nonempty { 0 < length result.now }
     {
-        self.literals.get(place)
+        self.literals[place].as_slice()
     }
 }
 

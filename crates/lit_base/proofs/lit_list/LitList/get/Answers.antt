@@ -7,11 +7,11 @@ use Rattle.lit_base.proofs.lit_list.LitList.get.Goals as goal
 
 pub returns-clause-len : goal.returns-clause-len
 returns-clause-len c =
-    let at : c.get.result.now ≡ get_or c.args.self.now.texts c.args.place c.get.result.now = grind (arith, common_steps) in
-    mapped_at length c.args.self.now.texts c.args.place c.get.result.now c.requires at
+    let at : c.as_slice.result.now ≡ get_or c.args.self.now.texts c.args.place c.as_slice.result.now = grind (arith, common_steps) in
+    mapped_at length c.args.self.now.texts c.args.place c.as_slice.result.now c.requires at
 
 pub returns-clause-nonempty : goal.returns-clause-nonempty
 returns-clause-nonempty c =
-    let at : c.get.result.now ≡ get_or c.args.self.now.texts c.args.place c.get.result.now = grind (arith, common_steps) in
+    let at : c.as_slice.result.now ≡ get_or c.args.self.now.texts c.args.place c.as_slice.result.now = grind (arith, common_steps) in
     let normal : IsNormal c.args.self.now = subst IsNormal c.self.view_is c.self.invariant in
-    holds_at (λ t. 0 < length t) c.args.self.now.texts c.args.place c.get.result.now c.requires at normal.nonempty
+    holds_at (λ t. 0 < length t) c.args.self.now.texts c.args.place c.as_slice.result.now c.requires at normal.nonempty

@@ -17,12 +17,12 @@ normal : (c : In_ok-literals) → IsNormal (record { folding = c.args.fold; text
 normal c = is_normal c.args.fold c.args.raw.now c.in_ok-literals.literals.items (form c) c.in_ok-distinct.ensures.limits (subst (λ ts. length ts ≤ MAX_LITERALS) (sym c.in_ok-literals.ensures) c.in_ok-distinct.ensures.few)
 
 pub invariant_of-list : goal.invariant_of-list
-invariant_of-list c = subst IsNormal (sym c.new.ensures) (normal (goal.at.invariant_of-list c).In_ok-literals)
+invariant_of-list c = normal (goal.at.invariant_of-list c).In_ok-literals
 
 pub returns-clause-form : goal.returns-clause-form
 returns-clause-form c =
-    rw c.new.ensures (subst (IsNormalForm c.args.fold c.args.raw.now) (sym (form (goal.at.returns-clause-form c).In_ok-literals)) (normal_form_is c.args.fold c.args.raw.now))
+    subst (IsNormalForm c.args.fold c.args.raw.now) (sym (form (goal.at.returns-clause-form c).In_ok-literals)) (normal_form_is c.args.fold c.args.raw.now)
 
 pub returns-clause-places : goal.returns-clause-places
 returns-clause-places c =
-    rw c.new.ensures (subst (λ texts. AllZip (IsPlaceOf c.args.fold texts) c.args.raw.now c.in_ok-place_of.place_of.items) c.as_slice.ensures.value c.in_ok-place_of.ensures)
+    subst (λ texts. AllZip (IsPlaceOf c.args.fold texts) c.args.raw.now c.in_ok-place_of.place_of.items) c.as_slice.ensures.value c.in_ok-place_of.ensures
