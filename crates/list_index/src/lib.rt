@@ -1,4 +1,5 @@
-//! What a search uses of a list of literals: the list, with tables by which the literals that end at a position are found.
+//! What a search uses of a list of literals: the list, with tables by which the literals that end at a position are
+//! found.
 #![tactic(auto)]
 
 mod alone;

@@ -11,8 +11,8 @@ use crate::lit_list::LitList;
 use crate::profile::{Profile, buckets};
 use arrayvec::ArrayVec;
 
-/// The ends of a cut's runs, in order: a run holds the places from the end before it, 0 for the
-/// first, up to but not including its own end.
+/// The ends of a cut's runs, in order: a run holds the places from the end before it, 0 for the first, up to but not
+/// including its own end.
 pub type Ends = ArrayVec<u16, MAX_BUCKETS>;
 
 /// The weights of the shortest lengths from one byte to seven.
@@ -60,8 +60,8 @@ fn run_cost(list: &LitList, start: usize, end: usize) -> u64
     cost(end - start, list.get(start).len())
 }
 
-/// Whether the ends cut the list into runs, no more of them than the profile has buckets: they strictly rise, the first is at
-/// least 1, and the last is the number of literals.
+/// Whether the ends cut the list into runs, no more of them than the profile has buckets: they strictly rise, the first
+/// is at least 1, and the last is the number of literals.
 pub fn is_cut(list: &LitList, profile: Profile, ends: &Ends) -> bool
     ensures { IsTrue result ↔ IsCut (buckets profile) (length list.now.texts) ends.now.items }
 {
