@@ -34,7 +34,7 @@ SHAPES = {
         "counts.rt": {"MASKED", "OFFSETS"},
         "grouping.rt": {"BUCKETS", "POSITIONS"},
         "marking.rt": {"MOST_OFFSET"},
-        "widths.rt": {"WIDTH"},
+        "widths.rt": {"HASH_BITS", "WIDTH"},
         "factor_ends.rt": {"REACH"},
     },
 }

@@ -4,11 +4,10 @@ use Rattle.std.specs.Int.{bit_at}
 use Rattle.std.specs.List.{slice_index}
 use Rattle.std.proofs.lemmas.Option.{slice_get_within}
 use Rattle.lit_base.specs.declared.fold.Fold.{Fold}
-use Rattle.list_index.specs.declared.suffixes.hash_bits.TheConstants.{HASH_BITS}
 use Rattle.list_index.specs.HashBits.{HasBit}
 use Rattle.list_index.specs.Suffixes.{hash_of, masked_key, suffix_key}
 use Rattle.list_index.proofs.SuffixLemmas.{AreBytes, key-occurs_inside, literal_is}
-use Rattle.factor_search.specs.declared.widths.TheConstants.{WIDTH}
+use Rattle.factor_search.specs.declared.widths.TheConstants.{HASH_BITS, WIDTH}
 use Rattle.factor_search.specs.Widths.{IsLeastWidth, width_at}
 use Rattle.factor_search.specs.Factors.{AreHashBits, AreMarkedByFactors, Factored, factor_key, offset_at}
 

@@ -5,7 +5,7 @@ use Rattle.lit_base.specs.Literals.{Literals, literal_at}
 use Rattle.list_index.specs.HashBits.{AreKeyBits}
 use Rattle.list_index.specs.Suffixes.{suffix_key}
 use Rattle.lit_base.specs.Occurrences.{Occurs}
-use Rattle.list_index.specs.declared.suffixes.hash_bits.TheConstants.{HASH_BITS}
+use Rattle.factor_search.specs.declared.widths.TheConstants.{HASH_BITS}
 use Rattle.factor_search.specs.Widths.{width_at}
 
 -- the value of a `Factors` in contracts: the literals, and how far before its end the factor of each ends

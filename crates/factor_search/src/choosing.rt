@@ -1,7 +1,7 @@
 //! Chooses the factor of each literal and estimates the search by it. A choice changes the time of a search, never its
 //! result.
 ghost use Rattle.std.specs.Prelude.{◌≡◌, ◌^◌, length, vec_len};
-ghost use Rattle.list_index.specs.declared.suffixes.hash_bits.TheConstants.{HASH_BITS};
+ghost use Rattle.factor_search.specs.declared.widths.TheConstants.{HASH_BITS};
 
 use crate::counts::Counts;
 use crate::prices::cost_of_masks;

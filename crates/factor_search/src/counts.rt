@@ -1,9 +1,9 @@
 //! Counts how often the last three bytes of factors occur in texts, by their hashes.
 ghost use Rattle.std.specs.Prelude.{◌≡◌, ◌^◌, ◌<◌, ◌≤◌, IfOk, length, vec_capacity, vec_len};
-ghost use Rattle.list_index.specs.declared.suffixes.hash_bits.TheConstants.{HASH_BITS};
+ghost use Rattle.factor_search.specs.declared.widths.TheConstants.{HASH_BITS};
 
-use crate::widths::WIDTH;
-use list_index::{HASH_BITS, case_bits, hash_of, last_word, masked_key, suffix_key};
+use crate::widths::{HASH_BITS, WIDTH};
+use list_index::{case_bits, hash_of, last_word, masked_key, suffix_key};
 use lit_base::LitList;
 use std::alloc::{AllocError, Global};
 

@@ -3,10 +3,9 @@ ghost use Rattle.std.specs.Prelude.{◌≡◌, ℕ, ◌+◌, ◌^◌, ◌<◌, �
 ghost use Rattle.std.specs.Int.{bit_at};
 ghost use Rattle.list_index.specs.HashBits.{HasBit};
 ghost use Rattle.list_index.specs.Suffixes.{hash_of, masked_key, suffix_key};
-ghost use Rattle.list_index.specs.declared.suffixes.hash_bits.TheConstants.{HASH_BITS};
 ghost use Rattle.nib_mask.specs.Prefixes.{CoversPrefixes};
 ghost use Rattle.nib_mask.specs.Halves.{widened};
-ghost use Rattle.factor_search.specs.declared.widths.TheConstants.{WIDTH};
+ghost use Rattle.factor_search.specs.declared.widths.TheConstants.{HASH_BITS, WIDTH};
 ghost use Rattle.factor_search.specs.Factors.{AreHashBits, AreWithin};
 
 use crate::choosing::{choose_offsets, estimate_of};
@@ -15,8 +14,8 @@ use crate::grouping::group;
 use crate::marking::mark_all;
 use crate::prices::cost_of_masks;
 use crate::tuning::{MARK_COST, START_COST};
-use crate::widths::{WIDTH, least_width, widths_from};
-use list_index::{HASH_BITS, ListIndex, case_bits, hash_of, masked_key, word_before};
+use crate::widths::{HASH_BITS, WIDTH, least_width, widths_from};
+use list_index::{ListIndex, case_bits, hash_of, masked_key, word_before};
 use lit_base::{Fold, LitList};
 use nib_mask::ByteMasks;
 use std::alloc::{AllocError, Global};
@@ -45,7 +44,7 @@ pub struct Factors {
 
 impl Model for Factors {
     ghost use Rattle.std.specs.Prelude.{◌≡◌, ◌^◌, ◌≤◌, length, vec_capacity, vec_len};
-    ghost use Rattle.list_index.specs.declared.suffixes.hash_bits.TheConstants.{HASH_BITS};
+    ghost use Rattle.factor_search.specs.declared.widths.TheConstants.{HASH_BITS};
     ghost use Rattle.nib_mask.specs.Prefixes.{CoversPrefixes};
     ghost use Rattle.nib_mask.specs.Halves.{widened};
     ghost use Rattle.factor_search.specs.Widths.{IsLeastWidth};

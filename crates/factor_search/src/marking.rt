@@ -1,10 +1,10 @@
 //! Sets the hash bits of literals, each by its factor.
 ghost use Rattle.std.specs.Prelude.{◌≡◌, ◌+◌, ◌^◌, ◌<◌, length, vec_len};
-ghost use Rattle.list_index.specs.declared.suffixes.hash_bits.TheConstants.{HASH_BITS};
+ghost use Rattle.factor_search.specs.declared.widths.TheConstants.{HASH_BITS};
 ghost use Rattle.factor_search.specs.Factors.{AreMarkedByFactors};
 
-use crate::widths::WIDTH;
-use list_index::{HASH_BITS, set_hash_bit, suffix_key};
+use crate::widths::{HASH_BITS, WIDTH};
+use list_index::{set_hash_bit, suffix_key};
 use lit_base::LitList;
 
 /// The largest offset of a factor: the distance to the end that the last bit of a byte stands for.

@@ -1,10 +1,13 @@
-//! The widths of factors.
+//! The widths of factors, and of their hashes.
 ghost use Rattle.factor_search.specs.Widths.{IsLeastWidth};
 
 use lit_base::LitList;
 
 /// Bytes of a factor, unless the literal is shorter.
 pub(crate) const WIDTH: usize = 4;
+
+/// The number of bits of a factor's hash: so many that few other bytes have a hash with a bit.
+pub(crate) const HASH_BITS: usize = 16;
 
 /// The least width of the factors of a list's literals; four at most.
 pub(crate) fn least_width(list: &LitList) -> usize

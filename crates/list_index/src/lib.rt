@@ -10,6 +10,5 @@ mod suffixes;
 pub use endings::Endings;
 pub use index::ListIndex;
 pub use suffixes::{
-    HASH_BITS, case_bits, has_bit, hash_of, last_word, masked_key, set_hash_bit, suffix_key,
-    word_before,
+    case_bits, has_bit, hash_of, last_word, masked_key, set_hash_bit, suffix_key, word_before,
 };

@@ -14,7 +14,7 @@ ghost use Rattle.list_index.specs.declared.suffixes.checks.TheConstants.{CHECK_B
 
 use crate::suffixes::chains::SuffixChains;
 use crate::suffixes::checks::SuffixChecks;
-pub use crate::suffixes::hash_bits::{HASH_BITS, has_bit, set_hash_bit};
+pub use crate::suffixes::hash_bits::{has_bit, set_hash_bit};
 pub use crate::suffixes::key::{
     case_bits, hash_of, last_word, masked_key, suffix_key, word_before,
 };

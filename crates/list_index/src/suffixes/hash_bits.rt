@@ -6,9 +6,6 @@ ghost use Rattle.std.specs.Int.{bit_at};
 
 use crate::suffixes::key::hash_of;
 
-/// The number of bits of a hash in a table of hash bits: so many that few other bytes have a hash with a bit.
-pub const HASH_BITS: usize = 16;
-
 /// Sets a bit in the byte at the hash of a key. A hash has this many bits.
 pub fn set_hash_bit(table: &mut Vec<u8>, bits: usize, key: u64, bit: usize)
     requires hashed { (0 < bits) × (bits ≤ 32) }

@@ -3,10 +3,9 @@ use Rattle.std.proofs.Common.{◌≡◌, ◌-◌, inl, inr, sym, subst, arith}
 use Rattle.std.proofs.lemmas.Bool.{cases_lt}
 use Rattle.list_index.specs.HashBits.{HasBit}
 use Rattle.list_index.specs.Suffixes.{hash_of, masked_key, suffix_key}
-use Rattle.list_index.specs.declared.suffixes.hash_bits.TheConstants.{HASH_BITS}
 use Rattle.list_index.proofs.HashBitLemmas.{bit_of_left, bit_of_right}
 use Rattle.list_index.proofs.SuffixLemmas.{are_bytes, word_key}
-use Rattle.factor_search.specs.declared.widths.TheConstants.{WIDTH}
+use Rattle.factor_search.specs.declared.widths.TheConstants.{HASH_BITS, WIDTH}
 use Rattle.factor_search.proofs.FactorLemmas.{read_width}
 use Rattle.factor_search.proofs.factors.hash_bits_of_widths.Goals as goal
 

@@ -2,7 +2,7 @@ use Rattle.std.proofs.Common.{◌≡◌, ℕ, ◌<◌, ◌≤◌}
 use Rattle.std.specs.Int.{bit_at}
 use Rattle.list_index.specs.HashBits.{HasBit}
 use Rattle.list_index.specs.Suffixes.{hash_of, masked_key}
-use Rattle.list_index.specs.declared.suffixes.hash_bits.TheConstants.{HASH_BITS}
+use Rattle.factor_search.specs.declared.widths.TheConstants.{HASH_BITS}
 use Rattle.factor_search.proofs.factors.hash_bits_of_widths.Given as goal
 
 -- the hash bits by the widths passed are found

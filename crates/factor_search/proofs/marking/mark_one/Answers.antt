@@ -4,7 +4,7 @@ use Rattle.std.proofs.lemmas.List.{get_or_read}
 use Rattle.lit_base.specs.Literals.{literal_at}
 use Rattle.list_index.specs.HashBits.{HasBit}
 use Rattle.list_index.specs.Suffixes.{hash_of, suffix_key}
-use Rattle.list_index.specs.declared.suffixes.hash_bits.TheConstants.{HASH_BITS}
+use Rattle.factor_search.specs.declared.widths.TheConstants.{HASH_BITS}
 use Rattle.list_index.proofs.HashBitLemmas.{more_key_bits}
 use Rattle.factor_search.specs.Factors.{IsFactor, factor_key}
 use Rattle.factor_search.proofs.marking.mark_one.Goals as goal
