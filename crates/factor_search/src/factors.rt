@@ -137,7 +137,7 @@ impl Factors {
     /// without the work at the ends themselves.
     pub fn cost_of(&self, count: usize, tally: Tally, found: EndRate) -> usize {
         cost_of_masks(count, tally.passed, widths_from(self.least))
-            .saturating_add(tally.marked.saturating_mul(MARK_COST))
+            .saturating_add(tally.false_positives.saturating_mul(MARK_COST))
             .saturating_add(found.starts.saturating_mul(START_COST))
     }
 }

@@ -202,7 +202,7 @@ fn found_by(
     let mut tally = Tally::nothing();
     for _ in 0..text.len() {
         let Some((end, _)) = shift_or.next_by(text, seen, &mut probes, &mut tally) else {
-            return Some((found, met, tally.marked));
+            return Some((found, met, tally.false_positives));
         };
         seen = end;
         found = found.saturating_add(1);
@@ -210,7 +210,7 @@ fn found_by(
             met = met.saturating_add(1);
         }
     }
-    Some((found, met, tally.marked))
+    Some((found, met, tally.false_positives))
 }
 
 /// The same for literals of four bytes.

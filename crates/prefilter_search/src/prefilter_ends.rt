@@ -117,8 +117,7 @@ impl<'a> Ends for PrefilterEnds<'a> {
 }
 
 /// The first position after the last returned candidate at which some literal ends, with the first such literal. The
-/// candidates come from a prefilter for the literals. Counts candidates at which nothing ends in `tally`. It takes no
-/// memory.
+/// candidates come from a prefilter for the literals. Counts the false positives in `tally`. It takes no memory.
 #[inline]
 fn next_verified(
     list: &ListIndex,
@@ -141,7 +140,7 @@ fn next_verified(
         if let Some(first) = list.first_ending(text, end) {
             return Some((end, first));
         }
-        tally.pass_one();
+        tally.miss();
     }
     None
 }

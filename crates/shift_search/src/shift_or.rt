@@ -203,7 +203,7 @@ impl ShiftOr {
         if let Some(found) = self.first_between(text, from, text.len().min(FIRST)) {
             return Some(found);
         }
-        let found = self.next_after(text, from.max(FIRST), *probes, &mut tally.marked)?;
+        let found = self.next_after(text, from.max(FIRST), *probes, &mut tally.false_positives)?;
         *probes = found.probes;
         Some((found.end, found.first))
     }

@@ -2,12 +2,15 @@
 ghost use Rattle.std.specs.Prelude.{◌≡◌, ◌+◌, ◌-◌, ◌^◌, min};
 ghost use Rattle.std.specs.Int.RustNames.{count_ones};
 
-/// Counters of positions that passed the prefilter, of false positives among pending ends, and of ends. A search by the
-/// plan counts only the passed positions at which nothing ends.
+/// The counters of a search.
 #[derive(Clone, Copy, Debug)]
 pub struct Tally {
+    /// Positions that passed the prefilter. Searches by factors alone count them.
     pub passed: usize,
-    pub marked: usize,
+    /// Candidates and pending ends at which no literal ends. A search by factors counts each pending end when its block
+    /// is probed, and takes it off again where a literal ends.
+    pub false_positives: usize,
+    /// Ends that were found.
     pub ends: usize,
 }
 
@@ -15,11 +18,11 @@ impl Tally {
     /// All counters 0.
     #[inline]
     pub fn nothing() -> Tally
-        ensures { result ≡ record { passed = 0; marked = 0; ends = 0 } }
+        ensures { result ≡ record { passed = 0; false_positives = 0; ends = 0 } }
     {
         Tally {
             passed: 0,
-            marked: 0,
+            false_positives: 0,
             ends: 0,
         }
     }
@@ -32,36 +35,30 @@ impl Tally {
         self.passed = self.passed.saturating_add(mask.count_ones() as usize);
     }
 
-    /// Counts one position that passed the prefilter.
+    /// Counts a pending end for each of the hash bits, as a false positive until a literal is found to end there.
     #[inline(always)]
-    pub fn pass_one(&mut self)
-        ensures { self.new ≡ record self.old { passed = min (self.old.passed + 1) (2 ^ 64 - 1) } }
+    pub fn pending(&mut self, hash_bits: u64)
+        ensures { self.new ≡ record self.old { false_positives = min (self.old.false_positives + count_ones hash_bits) (2 ^ 64 - 1) } }
     {
-        self.passed = self.passed.saturating_add(1);
+        self.false_positives = self
+            .false_positives
+            .saturating_add(hash_bits.count_ones() as usize);
     }
 
-    /// Counts a pending end for each bit of `marks`.
+    /// Counts one false positive.
     #[inline(always)]
-    pub fn pending(&mut self, marks: u64)
-        ensures { self.new ≡ record self.old { marked = min (self.old.marked + count_ones marks) (2 ^ 64 - 1) } }
+    pub fn miss(&mut self)
+        ensures { self.new ≡ record self.old { false_positives = min (self.old.false_positives + 1) (2 ^ 64 - 1) } }
     {
-        self.marked = self.marked.saturating_add(marks.count_ones() as usize);
-    }
-
-    /// Counts `count` false positives.
-    #[inline]
-    pub fn miss(&mut self, count: usize)
-        ensures { self.new ≡ record self.old { marked = min (self.old.marked + count) (2 ^ 64 - 1) } }
-    {
-        self.marked = self.marked.saturating_add(count);
+        self.false_positives = self.false_positives.saturating_add(1);
     }
 
     /// Counts a literal that ends at a pending end: this one is no false positive.
     #[inline(always)]
     pub fn hit(&mut self)
-        ensures { self.new ≡ record self.old { marked = self.old.marked - 1; ends = min (self.old.ends + 1) (2 ^ 64 - 1) } }
+        ensures { self.new ≡ record self.old { false_positives = self.old.false_positives - 1; ends = min (self.old.ends + 1) (2 ^ 64 - 1) } }
     {
-        self.marked = self.marked.saturating_sub(1);
+        self.false_positives = self.false_positives.saturating_sub(1);
         self.end();
     }
 

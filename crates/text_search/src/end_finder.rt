@@ -123,7 +123,7 @@ impl EndFinder {
                 let mut ends = ShiftOrEnds::after(&self.shift_or, text, from);
                 let found = next_of(&mut ends);
                 let (count, rate) = passed(text, from, found);
-                let spent = self.shift_or.cost_of(count, ends.tally().marked, rate);
+                let spent = self.shift_or.cost_of(count, ends.tally().false_positives, rate);
                 self.strategy.note(count, spent, rate);
                 found
             }
@@ -302,7 +302,7 @@ impl HitSearch for EndFinder {
                 let stop = add_hits_of(&mut ends, text, from, at, most, out)?;
                 let tally = ends.tally();
                 let found = EndRate::of_scan(tally.ends);
-                let spent = self.shift_or.cost_of(stop - from, tally.marked, found);
+                let spent = self.shift_or.cost_of(stop - from, tally.false_positives, found);
                 self.strategy.note(stop - from, spent, found);
                 Ok(stop)
             }
@@ -310,7 +310,7 @@ impl HitSearch for EndFinder {
                 let mut ends = compiled.prefilter_ends(text, from);
                 let stop = add_hits_of(&mut ends, text, from, at, most, out)?;
                 let found = EndRate::of_scan(ends.tally().ends);
-                let spent = cost_by_prefilter(ends.tally().passed, found.ends);
+                let spent = cost_by_prefilter(ends.tally().false_positives, found.ends);
                 self.strategy.note(stop - from, spent, found);
                 Ok(stop)
             }

@@ -69,7 +69,7 @@ impl<'a> TextSearch<'a> {
 
     /// How many false positives the search has found so far.
     pub(crate) fn missed(&self) -> usize {
-        self.ends.tally().passed
+        self.ends.tally().false_positives
     }
 }
 
