@@ -123,7 +123,9 @@ impl EndFinder {
                 let mut ends = ShiftOrEnds::after(&self.shift_or, text, from);
                 let found = next_of(&mut ends);
                 let (count, rate) = passed(text, from, found);
-                let spent = self.shift_or.cost_of(count, ends.tally().false_positives, rate);
+                let spent = self
+                    .shift_or
+                    .cost_of(count, ends.tally().false_positives, rate);
                 self.strategy.note(count, spent, rate);
                 found
             }
@@ -161,7 +163,7 @@ impl EndFinder {
         };
         let stop = add_hits_of(&mut ends, text, from, at, most, out)?;
         let found = ends.ends();
-        let spent = self.price_of_automaton(compiled, stop - from, found);
+        let spent = self.cost_of_automaton(compiled, stop - from, found);
         self.strategy
             .note(stop - from, spent, EndRate::of_scan(found));
         Ok(stop)
@@ -222,17 +224,20 @@ impl EndFinder {
         let (sample, _) = after.split_at(after.len().min(most));
         let rate = self.strategy.rate();
         let dense = cost_of_dense_ends(rate);
-        let by_factors = self.cost_of_factors(sample, rate).saturating_add(dense);
-        let automaton_cost = self.cost_of_automaton(compiled, wanted, rate);
-        let is_made_first = self.makes_automaton(wants_automaton_first(automaton_cost, by_factors));
-        let by_shift_or = if !is_made_first && wants_shift_or(by_factors) {
+        let by_factors = self.tune_factors(sample, rate).saturating_add(dense);
+        let automaton_estimate = self.estimate_of_automaton(compiled, wanted, rate);
+        let is_built_first = self.build_automaton_if(wants_automaton_first(
+            automaton_estimate,
+            by_factors,
+        ));
+        let by_shift_or = if !is_built_first && wants_shift_or(by_factors) {
             self.shift_or.tune(sample, rate).saturating_add(dense)
         } else {
             usize::MAX
         };
-        let is_best = wants_automaton(automaton_cost, by_factors, by_shift_or);
-        let by_automaton = if self.makes_automaton(is_best) {
-            automaton_cost
+        let is_best = wants_automaton(automaton_estimate, by_factors, by_shift_or);
+        let by_automaton = if self.build_automaton_if(is_best) {
+            automaton_estimate
         } else {
             usize::MAX
         };
@@ -240,7 +245,7 @@ impl EndFinder {
     }
 
     /// Chooses factors by a sample. Returns the estimate of a search by them; `usize::MAX` if there are none.
-    fn cost_of_factors(&mut self, sample: &[u8], rate: EndRate) -> usize
+    fn tune_factors(&mut self, sample: &[u8], rate: EndRate) -> usize
         ensures { self.new ≡ self.old }
     {
         match &mut self.factors {
@@ -250,7 +255,7 @@ impl EndFinder {
     }
 
     /// Builds the tables of the automaton if it is wanted. Returns whether they are built.
-    fn makes_automaton(&mut self, is_wanted: bool) -> bool
+    fn build_automaton_if(&mut self, is_wanted: bool) -> bool
         ensures { self.new ≡ self.old }
     {
         if !is_wanted {
@@ -261,15 +266,15 @@ impl EndFinder {
 
     /// The estimate of a scan by the automaton for 1,024 bytes with ends at this rate; `usize::MAX` for single ends,
     /// which the automaton does not search for.
-    fn cost_of_automaton(&self, compiled: &Compiled, wanted: Wanted, rate: EndRate) -> usize {
+    fn estimate_of_automaton(&self, compiled: &Compiled, wanted: Wanted, rate: EndRate) -> usize {
         match wanted {
-            Wanted::Hits => self.price_of_automaton(compiled, 1024, rate.ends),
+            Wanted::Hits => self.cost_of_automaton(compiled, 1024, rate.ends),
             Wanted::Ends => usize::MAX,
         }
     }
 
     /// The cost of a scan by the automaton for `count` bytes with `ends` ends.
-    fn price_of_automaton(&self, compiled: &Compiled, count: usize, ends: usize) -> usize {
+    fn cost_of_automaton(&self, compiled: &Compiled, count: usize, ends: usize) -> usize {
         cost_by_automaton(self.automaton.room(), compiled.carry(), count, ends)
     }
 }
@@ -302,7 +307,9 @@ impl HitSearch for EndFinder {
                 let stop = add_hits_of(&mut ends, text, from, at, most, out)?;
                 let tally = ends.tally();
                 let found = EndRate::of_scan(tally.ends);
-                let spent = self.shift_or.cost_of(stop - from, tally.false_positives, found);
+                let spent = self
+                    .shift_or
+                    .cost_of(stop - from, tally.false_positives, found);
                 self.strategy.note(stop - from, spent, found);
                 Ok(stop)
             }
