@@ -124,20 +124,37 @@ fn best_of(by_factors: usize, by_shift_or: usize, by_automaton: usize) -> (Engin
     }
 }
 
-/// What a finder has measured since it chose its engine: the bytes, their cost, and by how much the cost exceeds the
-/// allowance.
+/// What a finder has measured since it chose its engine.
+#[derive(Clone, Copy, Debug)]
+struct Measured {
+    bytes: usize,
+    cost: usize,
+    found: EndRate,
+    /// By how much the cost exceeds the allowance.
+    lost: usize,
+}
+
+impl Measured {
+    /// No bytes yet.
+    fn nothing() -> Measured {
+        Measured {
+            bytes: 0,
+            cost: 0,
+            found: EndRate::nothing(),
+            lost: 0,
+        }
+    }
+}
+
+/// The engine that a finder uses, and when it tunes.
 #[derive(Clone, Copy, Debug)]
 pub(crate) struct Strategy {
     engine: Engine,
-    passed: usize,
-    spent: usize,
-    ends: usize,
-    starts: usize,
     /// The allowance for 1,024 bytes.
     allowed: usize,
-    lost: usize,
     /// The loss at which it tunes.
     most_lost: usize,
+    measured: Measured,
 }
 
 impl Strategy {
@@ -145,13 +162,9 @@ impl Strategy {
     pub fn new() -> Strategy {
         Strategy {
             engine: Engine::Prefilter,
-            passed: 0,
-            spent: 0,
-            ends: 0,
-            starts: 0,
             allowed: PREFILTER_SLACK,
-            lost: 0,
             most_lost: LEAST_LOSS,
+            measured: Measured::nothing(),
         }
     }
 
@@ -200,29 +213,34 @@ impl Strategy {
     /// Whether the loss has reached the limit.
     #[inline(always)]
     fn is_due(&self) -> bool {
-        self.lost >= self.most_lost
+        self.measured.lost >= self.most_lost
     }
 
     /// As `is_due`, in a text with `rest` bytes to go. Under the prefilter, the loss expected in the rest counts too.
     fn is_due_before(&self, rest: usize) -> bool {
-        let likely = self.lost.saturating_mul(rest / self.passed.max(1));
+        let likely = self.measured.lost.saturating_mul(rest / self.measured.bytes.max(1));
         self.is_due() || !self.is_tuned() && likely >= self.most_lost.saturating_mul(SURE)
     }
 
-    /// Adds `spent`, the cost of `passed` bytes, and the ends found in them.
+    /// Adds the cost of some bytes, and the ends found in them.
     #[inline]
-    pub fn note(&mut self, passed: usize, spent: usize, found: EndRate) {
-        self.passed = self.passed.saturating_add(passed);
-        self.spent = self.spent.saturating_add(spent);
-        self.ends = self.ends.saturating_add(found.ends);
-        self.starts = self.starts.saturating_add(found.starts);
-        let allowed = passed.saturating_mul(self.allowed) / 1024;
-        self.lost = self.lost.saturating_add(spent).saturating_sub(allowed);
+    pub fn note(&mut self, bytes: usize, cost: usize, found: EndRate) {
+        let before = self.measured;
+        let allowed = bytes.saturating_mul(self.allowed) / 1024;
+        self.measured = Measured {
+            bytes: before.bytes.saturating_add(bytes),
+            cost: before.cost.saturating_add(cost),
+            found: EndRate {
+                ends: before.found.ends.saturating_add(found.ends),
+                starts: before.found.starts.saturating_add(found.starts),
+            },
+            lost: before.lost.saturating_add(cost).saturating_sub(allowed),
+        };
     }
 
     /// Takes the three estimates for 1,024 bytes, and changes to the engine with the lowest, unless the prefilter is in
-    /// use and this is not clearly better. An engine that was not prepared has the estimate `usize::MAX`. The counters
-    /// begin at 0 again.
+    /// use and this is not clearly better. An engine that was not prepared has the estimate `usize::MAX`. The
+    /// measurement begins anew.
     pub fn choose(&mut self, by_factors: usize, by_shift_or: usize, by_automaton: usize) {
         let (engine, cost) = best_of(by_factors, by_shift_or, by_automaton);
         let allowed = allowed_for(cost);
@@ -236,11 +254,7 @@ impl Strategy {
             self.engine = engine;
             self.allowed = allowed;
         }
-        self.passed = 0;
-        self.spent = 0;
-        self.ends = 0;
-        self.starts = 0;
-        self.lost = 0;
+        self.measured = Measured::nothing();
     }
 
     /// Whether an estimate is clearly better. Under the prefilter it has to be an eighth below the measured cost. Under
@@ -257,16 +271,16 @@ impl Strategy {
 
     /// The ends since the last choice, and the starts of a search after them, for 1,024 bytes.
     pub fn rate(&self) -> EndRate {
-        let passed = self.passed.max(1);
+        let bytes = self.measured.bytes.max(1);
         EndRate {
-            ends: self.ends.saturating_mul(1024) / passed,
-            starts: self.starts.saturating_mul(1024) / passed,
+            ends: self.measured.found.ends.saturating_mul(1024) / bytes,
+            starts: self.measured.found.starts.saturating_mul(1024) / bytes,
         }
     }
 
     /// The measured cost of 1,024 bytes since the last choice.
     fn taken(&self) -> usize {
-        let taken = self.spent.saturating_mul(1024) / self.passed.max(1);
+        let taken = self.measured.cost.saturating_mul(1024) / self.measured.bytes.max(1);
         if self.is_tuned() {
             taken
         } else {
