@@ -8,7 +8,6 @@ ghost use Rattle.factor_search.specs.declared.factor_ends.TheConstants.{REACH};
 
 use crate::factors::Factors;
 use crate::probing::{BLOCK, next_pending};
-use list_index::ListIndex;
 use std::alloc::AllocError;
 use std::marker::Model;
 use text_ends::{Ends, Hit, Tally, add_hits_at};
@@ -69,23 +68,21 @@ impl Pending {
     pub fn next_verified(
         &mut self,
         factors: &Factors,
-        list: &ListIndex,
         text: &[u8],
         tally: &mut Tally,
     ) -> Option<(usize, usize)>
-        requires list { factors.now.literals ≡ list.now }
         requires state { ArePendingEnds factors.now text.now self.old.seen self.old }
         ensures state { ArePendingEnds factors.now text.now self.new.seen self.new }
         ensures next { MatchOption result
-            (NoEndAfter list.now text.now self.old.seen)
-            (λ found. IsNextEnd list.now text.now self.old.seen found.0) }
-        ensures first { IfSome result (λ found. IsFirstEnding list.now text.now 0 found.0 found.1) }
+            (NoEndAfter factors.now.literals text.now self.old.seen)
+            (λ found. IsNextEnd factors.now.literals text.now self.old.seen found.0) }
+        ensures first { IfSome result (λ found. IsFirstEnding factors.now.literals text.now 0 found.0 found.1) }
         ensures seen { IfSome result (λ found. self.new.seen ≡ found.0) }
         ensures ahead { self.old.seen ≤ self.new.seen }
     {
         let mut state = *self;
         'blocks: loop {
-            if let Some(found) = state.first_end(factors, list, text) {
+            if let Some(found) = state.first_end(factors, text) {
                 *self = state.but_first(found.0 - state.seen);
                 tally.hit();
                 return Some(found);
@@ -101,15 +98,15 @@ impl Pending {
 
     /// The first pending end at which some literal ends, with the first such literal.
     #[inline(always)]
-    fn first_end(self, factors: &Factors, list: &ListIndex, text: &[u8]) -> Option<(usize, usize)>
-        requires list { factors.now.literals ≡ list.now }
+    fn first_end(self, factors: &Factors, text: &[u8]) -> Option<(usize, usize)>
         requires state { ArePendingEnds factors.now text.now self.seen self }
         ensures next { MatchOption result
-            (NoEndUpTo list.now text.now self.seen (self.seen + self.count))
-            (λ found. IsNextEnd list.now text.now self.seen found.0) }
+            (NoEndUpTo factors.now.literals text.now self.seen (self.seen + self.count))
+            (λ found. IsNextEnd factors.now.literals text.now self.seen found.0) }
         ensures within { IfSome result (λ found. found.0 ≤ self.seen + self.count) }
-        ensures first { IfSome result (λ found. IsFirstEnding list.now text.now 0 found.0 found.1) }
+        ensures first { IfSome result (λ found. IsFirstEnding factors.now.literals text.now 0 found.0 found.1) }
     {
+        let list = factors.list();
         let mut back = 0;
         let mut rest = self.hash_bits;
         while rest != 0 {
@@ -210,10 +207,9 @@ impl<'a> Ends for FactorEnds<'a> {
 
     #[inline(always)]
     fn next_end(&mut self) -> Option<(usize, usize)> {
-        let list = self.factors.list();
         let found = self
             .state
-            .next_verified(self.factors, list, self.text, &mut self.tally);
+            .next_verified(self.factors, self.text, &mut self.tally);
         self.from = self.state.seen;
         found
     }

@@ -9,4 +9,4 @@ pub returns-clause-next : goal.returns-clause-next
 returns-clause-next c =
     let s = c.self.inside in
     subst (λ (w : Walk). MatchOption c.next_verified-found.result (NoEndAfter w.literals w.text w.from) (λ found. IsNextEnd w.literals w.text w.from found.0)) c.self.view_is
-    (next_or_none_further s.factors.now.literals s.text.now s.from s.state.seen c.self.invariant.2 c.next_verified-found.result c.self.invariant.1 (rw c.list-list.ensures at c.next_verified-found.ensures.next))
+    (next_or_none_further s.factors.now.literals s.text.now s.from s.state.seen c.self.invariant.2 c.next_verified-found.result c.self.invariant.1 c.next_verified-found.ensures.next)

@@ -7,7 +7,7 @@ use Rattle.factor_search.proofs.factor_ends.Pending.first_end.Given as goal
 abbrev pub invariant-loop-rest : goal.invariant-loop-rest
 invariant-loop-rest l = record {
   near : l.back ≤ l.self.count;
-  marked : (other : ℕ) → other < l.self.count → HasEnd l.list l.text (l.self.seen + 1 + other) → (l.back ≤ other) × (bit_at l.rest (other - l.back) ≡ 1);
+  marked : (other : ℕ) → other < l.self.count → HasEnd l.factors.literals l.text (l.self.seen + 1 + other) → (l.back ≤ other) × (bit_at l.rest (other - l.back) ≡ 1);
 }
 
 abbrev pub decreases-loop-rest : goal.decreases-loop-rest

@@ -8,7 +8,7 @@ abbrev pub invariant-blocks-2 : goal.invariant-blocks-2
 invariant-blocks-2 l = record {
   state : ArePendingEnds l.factors l.text l.state.seen l.state;
   ahead : l.fn.self.seen ≤ l.state.seen;
-  none : NoEndUpTo l.list l.text l.fn.self.seen l.state.seen;
+  none : NoEndUpTo l.factors.literals l.text l.fn.self.seen l.state.seen;
 }
 
 abbrev pub decreases-blocks-2 : goal.decreases-blocks-2
