@@ -106,7 +106,7 @@ impl Pending {
         ensures within { IfSome result (λ found. found.0 ≤ self.seen + self.count) }
         ensures first { IfSome result (λ found. IsFirstEnding factors.now.literals text.now 0 found.0 found.1) }
     {
-        let list = factors.list();
+        let index = factors.index();
         let mut back = 0;
         let mut rest = self.hash_bits;
         while rest != 0 {
@@ -116,7 +116,7 @@ impl Pending {
                 return None;
             }
             let end = self.seen + 1 + back;
-            if let Some(first) = list.next_ending(text, end, 0) {
+            if let Some(first) = index.next_ending(text, end, 0) {
                 return Some((end, first));
             }
             back += 1;
@@ -183,7 +183,7 @@ impl<'a> FactorEnds<'a> {
         ensures { result ≡ record { literals = factors.now.literals; text = text.now; from = from } }
     {
         let mut tally = Tally::nothing();
-        let start = factors.list().skip_short_ends(from).min(text.len());
+        let start = factors.index().skip_short_ends(from).min(text.len());
         let state = Pending::after(factors, text, start, &mut tally);
         FactorEnds {
             factors,
@@ -222,6 +222,6 @@ impl<'a> Ends for FactorEnds<'a> {
         at: u64,
         out: &mut Vec<Hit>,
     ) -> Result<(), AllocError> {
-        add_hits_at(self.factors.list(), self.text, end, first, at, out)
+        add_hits_at(self.factors.index(), self.text, end, first, at, out)
     }
 }

@@ -85,9 +85,9 @@ impl Factors {
         })
     }
 
-    /// The list.
+    /// The index of the list.
     #[inline(always)]
-    pub(crate) fn list(&self) -> &ListIndex
+    pub(crate) fn index(&self) -> &ListIndex
         ensures { result.now ≡ self.now.literals }
     {
         &self.index

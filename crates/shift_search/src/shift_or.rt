@@ -92,9 +92,9 @@ impl ShiftOr {
         })
     }
 
-    /// The list.
+    /// The index of the list.
     #[inline(always)]
-    pub(crate) fn list(&self) -> &ListIndex
+    pub(crate) fn index(&self) -> &ListIndex
         ensures { result.now ≡ self.now.literals }
     {
         &self.index

@@ -79,6 +79,6 @@ impl<'a> Ends for ShiftOrEnds<'a> {
         at: u64,
         out: &mut Vec<Hit>,
     ) -> Result<(), AllocError> {
-        add_hits_at(self.shift_or.list(), self.text, end, first, at, out)
+        add_hits_at(self.shift_or.index(), self.text, end, first, at, out)
     }
 }

@@ -85,7 +85,7 @@ impl<'a> Ends for AutomatonEnds<'a> {
         out: &mut Vec<Hit>,
     ) -> Result<(), AllocError> {
         let places = self.automaton.output_of(state);
-        add_output(self.automaton.list(), self.text, end, places, at, out)
+        add_output(self.automaton.index(), self.text, end, places, at, out)
     }
 }
 

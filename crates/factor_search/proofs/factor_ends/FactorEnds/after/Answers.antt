@@ -5,7 +5,7 @@ use Rattle.factor_search.proofs.factor_ends.FactorEnds.after.Goals as goal
 
 pub invariant_of-result : goal.invariant_of-result
 invariant_of-result c =
-    let none = rw c.list.ensures at (c.skip_short_ends.ensures.none c.args.text.now) in
+    let none = rw c.index.ensures at (c.skip_short_ends.ensures.none c.args.text.now) in
     let state = c.after-state.ensures in (
       state.state,
       omega (arith, state.ahead, c.min-start.ensures, c.skip_short_ends.ensures.ahead, c.requires),

@@ -32,7 +32,7 @@ pub returns-in-Some-clause-next : goal.returns-in-Some-clause-next
 returns-in-Some-clause-next c =
     let seen = c.args.self.seen in
     let lowest = bit_at-trailing_zeros w64 c.loop-rest.rest (omega (arith, c.loop-rest-test.true)) c.loop-rest.auto.rest-fits.fits in
-    let occurs = (rw c.list-list.ensures at c.in-Some.ensures.first).occurs in
+    let occurs = (rw c.index-index.ensures at c.in-Some.ensures.first).occurs in
     record {
       after = omega arith;
       within = occurs.ends;
@@ -50,7 +50,7 @@ loop-rest-preserved c =
     record {
       near = omega (arith, c.if-back-self.false);
       marked = marked_after c.args.factors.now.literals c.args.text.now c.args.self.seen c.args.self.count c.loop-rest.back c.loop-rest.rest c.loop-rest.invariant.marked _ lowest.2
-          (λ there. (rw c.list-list.ensures at c.in_default.ensures.first) there.0 (omega arith) there.1);
+          (λ there. (rw c.index-index.ensures at c.in_default.ensures.first) there.0 (omega arith) there.1);
     }
 
 pub returns-clause-next : goal.returns-clause-next
