@@ -1,5 +1,6 @@
 //! Which literals share a bucket of the masks. The choice changes the time of a search, never its result.
-ghost use Rattle.std.specs.Prelude.{◌≡◌, ◌≤◌, length, vec_len};
+ghost use Rattle.std.specs.Prelude.{◌≡◌, ◌<◌, length, vec_len};
+ghost use Rattle.factor_search.specs.declared.grouping.TheConstants.{BUCKETS};
 
 use lit_base::LitList;
 
@@ -9,20 +10,19 @@ const BUCKETS: usize = 8;
 /// The masks see this many of the last bytes of a prefix, by their halves.
 const POSITIONS: usize = 3;
 
-/// The halves of bytes that the prefixes of a bucket have at the last three positions. Bit v of a set stands for the
-/// half v.
+/// The halves of bytes that the prefixes of a bucket have at the last positions. Bit v of a set stands for the half v.
 #[derive(Clone, Copy)]
 struct Halves {
-    low: [u16; 3],
-    high: [u16; 3],
+    low: [u16; POSITIONS],
+    high: [u16; POSITIONS],
 }
 
 impl Halves {
     /// The halves of no prefix.
     fn none() -> Halves {
         Halves {
-            low: [0; 3],
-            high: [0; 3],
+            low: [0; POSITIONS],
+            high: [0; POSITIONS],
         }
     }
 
@@ -61,7 +61,7 @@ pub(crate) fn group(list: &LitList, offsets: &Vec<u8>, buckets: &mut Vec<u8>)
     requires buckets { vec_len buckets.old ≡ length list.now.texts }
     ensures { vec_len buckets.new ≡ vec_len buckets.old }
 {
-    let mut groups = [Halves::none(); 8];
+    let mut groups = [Halves::none(); BUCKETS];
     for place in 0..list.len() {
         let literal = list.get(place);
         let len = literal.len().saturating_sub(usize::from(offsets[place]));
@@ -73,8 +73,8 @@ pub(crate) fn group(list: &LitList, offsets: &Vec<u8>, buckets: &mut Vec<u8>)
 }
 
 /// The bucket that passes the fewest additional triples with a prefix.
-fn best_bucket(groups: [Halves; 8], prefix: &[u8]) -> usize
-    ensures { result ≤ 7 }
+fn best_bucket(groups: [Halves; BUCKETS], prefix: &[u8]) -> usize
+    ensures { result < BUCKETS }
 {
     let mut best = (0, u32::MAX);
     for bucket in 0..BUCKETS {
