@@ -7,7 +7,8 @@ use crate::blocks::{GROUP, GROUPS};
 use crate::entries::PLACES;
 use crate::probing::probes_from;
 use crate::tuning::{
-    EACH_COST, HIT_COST, LEFT_COST, LEFT_IN_BLOCK_COST, NEAR, SHIFT_OR_COST, SPARSE, START_COST,
+    EACH_COST, FALSE_POSITIVE_COST, FALSE_POSITIVE_IN_BLOCK_COST, HIT_COST, LEAST_BEFORE_BLOCKS,
+    SHIFT_OR_COST, SPARSE, START_COST,
 };
 use text_ends::EndRate;
 
@@ -20,11 +21,14 @@ pub(crate) fn cost_of<const STEP: usize>(
     let cost = if STEP == 1 { EACH_COST } else { SHIFT_OR_COST };
     let probes = count.saturating_mul(cost) / 1024;
     let scanned = found.ends.saturating_sub(found.starts);
-    let is_by_blocks = found.ends.saturating_mul(NEAR + GROUP * GROUPS) < count;
+    let is_by_blocks = found
+        .ends
+        .saturating_mul(LEAST_BEFORE_BLOCKS + GROUP * GROUPS)
+        < count;
     let price = if is_by_blocks {
-        LEFT_IN_BLOCK_COST
+        FALSE_POSITIVE_IN_BLOCK_COST
     } else {
-        LEFT_COST
+        FALSE_POSITIVE_COST
     };
     probes
         .saturating_add(false_positives.saturating_mul(price))

@@ -17,7 +17,7 @@ use crate::prices::{cost_of, estimate};
 use crate::probes::{Probes, Verified, bits_after};
 use crate::probing::{four_probes, probes_from};
 use crate::runs::cut_runs;
-use crate::tuning::NEAR;
+use crate::tuning::LEAST_BEFORE_BLOCKS;
 use lane_filter::split_lowest;
 use list_index::{ListIndex, has_bit, hash_of, last_word, masked_key};
 use std::alloc::{AllocError, Global};
@@ -244,13 +244,13 @@ impl ShiftOr {
         requires probes { AreProbes self.now text.now start probes }
         ensures { FindsVerified self.now text.now start (length text.now) result }
     {
-        if let Some(found) = self.end_left(text, probes, false_positives) {
+        if let Some(found) = self.first_unruled(text, probes, false_positives) {
             return Some(found);
         }
         // Single variables hold the state, and functions return new ones. Otherwise it is stored at each turn.
         let mut at = probes.at;
         let mut before = last_alone(probes.carried);
-        let (mut far, mut opened) = (at.saturating_add(NEAR), at);
+        let (mut far, mut opened) = (at.saturating_add(LEAST_BEFORE_BLOCKS), at);
         // A turn needs 32 more positions after a block of eight.
         let last_four = text.len().saturating_sub(5 * PLACES - 1);
         'fours: while at <= last_four {
@@ -276,7 +276,7 @@ impl ShiftOr {
                     at = passed;
                     before = last_alone(after);
                     // If an end stopped the blocks, the search finds it before it tries blocks again.
-                    far = at.saturating_add(NEAR);
+                    far = at.saturating_add(LEAST_BEFORE_BLOCKS);
                 }
                 opened = at;
             }
@@ -379,12 +379,12 @@ impl ShiftOr {
             let now = probes_from::<STEP>(entries, text, at);
             let unruled = !(now.here | carried);
             carried = now.after;
-            let left_here = Probes {
+            let here = Probes {
                 at,
                 unruled,
                 carried,
             };
-            if let Some(found) = self.end_left(text, left_here, false_positives) {
+            if let Some(found) = self.first_unruled(text, here, false_positives) {
                 return Some(found);
             }
         }
@@ -407,7 +407,12 @@ impl ShiftOr {
 
     /// The first end that probes did not rule out and at which some literal ends, with the first such literal.
     #[inline(always)]
-    fn end_left(&self, text: &[u8], probes: Probes, false_positives: &mut usize) -> Option<Verified>
+    fn first_unruled(
+        &self,
+        text: &[u8],
+        probes: Probes,
+        false_positives: &mut usize,
+    ) -> Option<Verified>
         requires eight { 8 ≤ probes.at }
         requires inside { 0 < probes.unruled → probes.at + 7 ≤ length text.now }
         ensures { (start : ℕ) → AreProbes self.now text.now start probes
@@ -532,5 +537,5 @@ impl ShiftOr {
 /// Whether a search tries blocks: it has gone far, and the last group with an end that was not ruled out is near.
 #[inline(always)]
 fn may_skip(at: usize, far: usize, opened: usize) -> bool {
-    at >= far && at.saturating_sub(opened) < NEAR
+    at >= far && at.saturating_sub(opened) < LEAST_BEFORE_BLOCKS
 }

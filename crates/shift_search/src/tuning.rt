@@ -12,11 +12,11 @@ pub(crate) const EACH_COST: usize = 4300;
 pub const SHIFT_OR_COST: usize = 2100;
 
 /// A false positive, for each bucket. How it was chosen is not recorded.
-pub(crate) const LEFT_COST: usize = 190;
+pub(crate) const FALSE_POSITIVE_COST: usize = 190;
 
 /// A false positive in a text with so few ends that most of it is searched by blocks. Measured: with 90 and with 120
 /// all but one of 24 lists use the same stride, and they take 0.74 to 1.02 of the time that 190 gives.
-pub(crate) const LEFT_IN_BLOCK_COST: usize = 100;
+pub(crate) const FALSE_POSITIVE_IN_BLOCK_COST: usize = 100;
 
 /// The extra cost of an end in a scan, compared with factors. Chosen by forcing either engine for 26 lists of 30 to
 /// 1,000 frequent literals. The engine with the lower estimate was faster for 23 of them, and took at most 1.19 times
@@ -34,4 +34,4 @@ pub(crate) const SPARSE: usize = 31;
 /// Bytes. At a group with an end that was not ruled out, a search tries blocks if it has gone this far and the last
 /// such group is nearer than this. A nearer end is found without blocks, since a block with an end is probed twice.
 /// Measured: with fewer such groups, blocks took 1.03 to 1.06 times as long.
-pub(crate) const NEAR: usize = 1024;
+pub(crate) const LEAST_BEFORE_BLOCKS: usize = 1024;

@@ -12,9 +12,9 @@
 ghost use Rattle.std.specs.Prelude.{◌<◌, ◌↔◌, IsTrue};
 
 use crate::tuning::{
-    FEW, FEW_BY_MASKS, FIRST_SPANS, LEAST_BY_AUTOMATON, LEAST_CHOSEN, LEAST_GATHERED,
-    LEAST_GATHERED_OF_FEW, LEAST_LOSS, LEAST_SAMPLE, MOST_BY_FACTORS, MOST_WAIT,
-    MOST_WITHOUT_FINDER, PREFILTER_SLACK, SAMPLE, SAMPLE_OF_FEW, SPAN, SURE, TUNED_SLACK,
+    FIRST_SPANS, LEAST_BY_AUTOMATON, LEAST_CHOSEN, LEAST_GATHERED, LEAST_GATHERED_BY_PLAN_MASKS,
+    LEAST_LOSS, LEAST_SAMPLE, MOST_BY_FACTORS, MOST_BY_PLAN_MASKS, MOST_BY_SMALL_SAMPLE, MOST_WAIT,
+    MOST_WITHOUT_FINDER, PREFILTER_SLACK, SAMPLE, SMALL_SAMPLE, SPAN, SURE, TUNED_SLACK,
 };
 use factor_search::MASKS_COST;
 use shift_search::SHIFT_OR_COST;
@@ -68,13 +68,17 @@ pub(crate) fn has_factors(len: usize) -> bool {
 
 /// The longest sample, in bytes, for a list of `len` literals.
 pub(crate) fn sample_len(len: usize) -> usize {
-    if len <= FEW { SAMPLE_OF_FEW } else { SAMPLE }
+    if len <= MOST_BY_SMALL_SAMPLE {
+        SMALL_SAMPLE
+    } else {
+        SAMPLE
+    }
 }
 
 /// The shortest piece, in bytes after those at its boundary, that is gathered for a list of `len` literals.
 pub(crate) fn least_gathered(len: usize) -> usize {
-    if len <= FEW_BY_MASKS {
-        LEAST_GATHERED_OF_FEW
+    if len <= MOST_BY_PLAN_MASKS {
+        LEAST_GATHERED_BY_PLAN_MASKS
     } else {
         LEAST_GATHERED
     }
@@ -218,7 +222,10 @@ impl Strategy {
 
     /// As `is_due`, in a text with `rest` bytes to go. Under the prefilter, the loss expected in the rest counts too.
     fn is_due_before(&self, rest: usize) -> bool {
-        let likely = self.measured.lost.saturating_mul(rest / self.measured.bytes.max(1));
+        let likely = self
+            .measured
+            .lost
+            .saturating_mul(rest / self.measured.bytes.max(1));
         self.is_due() || !self.is_tuned() && likely >= self.most_lost.saturating_mul(SURE)
     }
 

@@ -10,14 +10,14 @@
 pub(crate) const MOST_WITHOUT_FINDER: usize = 3;
 
 /// Literals. A list of at most this length is tuned by the smaller sample, which shows its rare factors. Not varied.
-pub(crate) const FEW: usize = 32;
+pub(crate) const MOST_BY_SMALL_SAMPLE: usize = 32;
 
 /// Literals. A longer list is not searched for by factors: with more literals most positions pass the masks. Measured: of
 /// 1,000 literals, 100 of them short, a third.
 pub(crate) const MOST_BY_FACTORS: usize = 128;
 
 /// Literals. The plan's masks serve lists of at most this length well: two for each bucket. Not varied.
-pub(crate) const FEW_BY_MASKS: usize = 16;
+pub(crate) const MOST_BY_PLAN_MASKS: usize = 16;
 
 // Bytes of a text.
 
@@ -27,8 +27,8 @@ pub const LEAST_SAMPLE: usize = 16384;
 /// Bytes. The longest sample. Not varied.
 pub(crate) const SAMPLE: usize = 65536;
 
-/// Bytes. The longest sample for at most `FEW` literals. Not varied.
-pub(crate) const SAMPLE_OF_FEW: usize = 32768;
+/// Bytes. The longest sample for at most `MOST_BY_SMALL_SAMPLE` literals. Not varied.
+pub(crate) const SMALL_SAMPLE: usize = 32768;
 
 /// Bytes. A scan uses one engine for this long: no more than a sample, so that a bad choice ends early. Measured with
 /// `LEAST_LOSS`.
@@ -49,8 +49,8 @@ pub(crate) const LEAST_BY_AUTOMATON: usize = 128;
 /// cost. Measured, not varied.
 pub(crate) const LEAST_GATHERED: usize = 192;
 
-/// Bytes. The same for at most `FEW_BY_MASKS` literals. Measured, not varied.
-pub(crate) const LEAST_GATHERED_OF_FEW: usize = 3072;
+/// Bytes. The same for at most `MOST_BY_PLAN_MASKS` literals. Measured, not varied.
+pub(crate) const LEAST_GATHERED_BY_PLAN_MASKS: usize = 3072;
 
 /// Bytes between two ends. At this distance an end costs factors and shift-or as much as the plan. Measured on four
 /// lists.
@@ -61,7 +61,8 @@ pub(crate) const DENSE: usize = 3;
 /// A false positive of the plan. Chosen with `LEAST_LOSS` on one seed, not measured.
 pub(crate) const CANDIDATE_COST: usize = 400;
 
-/// What the plan may take for 1,024 bytes in addition to its filter: one false positive. Not varied.
+/// What the plan may take for 1,024 bytes in addition to its filter: a little more than one false positive.
+/// Not varied.
 pub(crate) const PREFILTER_SLACK: usize = 512;
 
 /// What another engine may take for 1,024 bytes beyond one and a half times its estimate. Not varied.
