@@ -3,10 +3,10 @@
 use factor_search::Factors;
 use list_index::ListIndex;
 use lit_base::{Fold, LitList, RawList};
-use shift_search::{ShiftOr, cut_runs};
+use shift_search::{ShiftOr, ShiftOrEnds, cut_runs};
 use std::alloc::Global;
 use std::sync::Arc;
-use text_ends::{EndRate, Tally};
+use text_ends::{EndRate, Ends};
 
 /// Literals of each length that is marked in its own way.
 const WORDS: [&[u8]; 5] = [b"q", b"xy", b"fox", b"over", b"lazy dogs"];
@@ -197,20 +197,18 @@ fn found_by(
     let index = index_of(alloc, fold, literals)?;
     let mut shift_or = ShiftOr::new(alloc, index).ok()?;
     shift_or.tune(&sample_of(alloc, bytes)?, EndRate::nothing());
-    let mut probes = shift_or.probes_after(text, 0);
-    let (mut found, mut met, mut seen) = (0usize, 0usize, 0);
-    let mut tally = Tally::nothing();
+    let mut walk = ShiftOrEnds::after(&shift_or, text, 0);
+    let (mut found, mut met) = (0usize, 0usize);
     for _ in 0..text.len() {
-        let Some((end, _)) = shift_or.next_by(text, seen, &mut probes, &mut tally) else {
-            return Some((found, met, tally.false_positives));
+        let Some((end, _)) = walk.next_end() else {
+            return Some((found, met, walk.tally().false_positives));
         };
-        seen = end;
         found = found.saturating_add(1);
         if ends.contains(&end) {
             met = met.saturating_add(1);
         }
     }
-    Some((found, met, tally.false_positives))
+    Some((found, met, walk.tally().false_positives))
 }
 
 /// The same for literals of four bytes.
@@ -285,15 +283,11 @@ fn finds_short_literals_in_any_case(rt: HostRuntime) {
 
 /// Whether a search by shift-or finds one end in a text, which is this.
 fn finds_only(shift_or: &ShiftOr, text: &[u8], end: usize) -> bool {
-    let mut probes = shift_or.probes_after(text, 0);
-    let mut tally = Tally::nothing();
-    let Some((found, _)) = shift_or.next_by(text, 0, &mut probes, &mut tally) else {
+    let mut walk = ShiftOrEnds::after(shift_or, text, 0);
+    let Some((found, _)) = walk.next_end() else {
         return false;
     };
-    found == end
-        && shift_or
-            .next_by(text, found, &mut probes, &mut tally)
-            .is_none()
+    found == end && walk.next_end().is_none()
 }
 
 /// `before` dots, a word, and dots up to `dots` bytes and the word.
@@ -396,9 +390,8 @@ fn finds_literals_at_each_place_of_blocks(rt: HostRuntime) {
 fn second_untuned(alloc: Global) -> Option<usize> {
     let index = index_of(alloc, Fold::No, &FOURS)?;
     let shift_or = ShiftOr::new(alloc, index).ok()?;
-    let mut probes = shift_or.probes_after(WITH_FOURS, FOUR_ENDS[0]);
-    let mut tally = Tally::nothing();
-    match shift_or.next_by(WITH_FOURS, FOUR_ENDS[0], &mut probes, &mut tally) {
+    let mut walk = ShiftOrEnds::after(&shift_or, WITH_FOURS, FOUR_ENDS[0]);
+    match walk.next_end() {
         Some((end, _)) => Some(end),
         None => None,
     }

@@ -9,10 +9,10 @@ use lane_filter::from_bit;
 /// eight positions after them. Bit `8 * ahead + bucket` stands for an end of the bucket `ahead` positions after the
 /// first.
 #[derive(Clone, Copy, Debug)]
-pub struct Probes {
-    pub(crate) at: usize,
-    pub(crate) unruled: u64,
-    pub(crate) carried: u64,
+pub(crate) struct Probes {
+    pub at: usize,
+    pub unruled: u64,
+    pub carried: u64,
 }
 
 /// An end, the first literal that ends there, and the state of a search after it.

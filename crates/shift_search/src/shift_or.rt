@@ -24,7 +24,7 @@ use std::alloc::{AllocError, Global};
 use std::marker::Model;
 use std::simd::prelude::*;
 use std::sync::Arc;
-use text_ends::{EndRate, Tally};
+use text_ends::EndRate;
 
 /// Bytes at the start of a text that are searched without probes. After them, eight positions can be probed before the
 /// first end, with eight bytes before each.
@@ -152,7 +152,7 @@ impl ShiftOr {
 
     /// The state of a search after a position.
     #[inline]
-    pub fn probes_after(&self, text: &[u8], from: usize) -> Probes
+    pub(crate) fn probes_after(&self, text: &[u8], from: usize) -> Probes
         ensures { AreProbesAfter self.now text.now from result }
     {
         let start = from.max(FIRST);
@@ -186,14 +186,14 @@ impl ShiftOr {
 
     /// The first position of the text after `from` at which some literal ends, wherever it begins, with the first such
     /// literal. `probes` is the state of a search after `from`, and then its state after this end. Counts the false
-    /// positives, for each bucket, in `tally`. It takes no memory.
+    /// positives, for each bucket. It takes no memory.
     #[inline(never)]
-    pub fn next_by(
+    pub(crate) fn next_by(
         &self,
         text: &[u8],
         from: usize,
         probes: &mut Probes,
-        tally: &mut Tally,
+        false_positives: &mut usize,
     ) -> Option<(usize, usize)>
         requires { AreProbesAfter self.now text.now from probes.old }
         ensures next { Finds self.now.literals text.now from (length text.now) result }
@@ -203,7 +203,7 @@ impl ShiftOr {
         if let Some(found) = self.first_between(text, from, text.len().min(FIRST)) {
             return Some(found);
         }
-        let found = self.next_after(text, from.max(FIRST), *probes, &mut tally.false_positives)?;
+        let found = self.next_after(text, from.max(FIRST), *probes, false_positives)?;
         *probes = found.probes;
         Some((found.end, found.first))
     }

@@ -60,9 +60,12 @@ impl<'a> Ends for ShiftOrEnds<'a> {
     #[inline(always)]
     fn next_end(&mut self) -> Option<(usize, usize)> {
         let mut probes = self.probes;
-        let found = self
-            .shift_or
-            .next_by(self.text, self.from, &mut probes, &mut self.tally);
+        let found = self.shift_or.next_by(
+            self.text,
+            self.from,
+            &mut probes,
+            &mut self.tally.false_positives,
+        );
         if let Some((end, _)) = found {
             self.tally.end();
             self.from = end;
