@@ -15,8 +15,8 @@ pub use scanning::{pieces_law, scan_after, scan_all, scan_pieces, scan_until};
 pub use stream::Stream;
 pub use text_ends::Hit;
 pub use text_search::{
-    EndFinder, HitSearch, LEAST_SAMPLE, LEAST_WITH_FINDER, PrefilterSearch, TextSearch,
-    first_end_after, make_if_long,
+    EndFinder, HitSearch, LEAST_SAMPLE, LEAST_WITH_FINDER, MOST_WITHOUT_FINDER, PrefilterSearch,
+    TextSearch, first_end_after, make_if_long,
 };
 pub use tuned_plan::TunedPlan;
 

@@ -16,7 +16,7 @@ pub use hit_search::{HitSearch, PrefilterSearch};
 pub use optional_finder::make_if_long;
 pub use strategy::Engine;
 pub use text_search::{TextSearch, first_end_after};
-pub use tuning::{LEAST_SAMPLE, LEAST_WITH_FINDER};
+pub use tuning::{LEAST_SAMPLE, LEAST_WITH_FINDER, MOST_WITHOUT_FINDER};
 
 #[cfg(test)]
 mod tests;

@@ -7,7 +7,7 @@
 
 /// Literals. A list of at most this length has no finder: one to three bytes of each leave few false positives.
 /// Not varied.
-pub(crate) const MOST_WITHOUT_FINDER: usize = 3;
+pub const MOST_WITHOUT_FINDER: usize = 3;
 
 /// Literals. A list of at most this length is tuned by the smaller sample, which shows its rare factors. Not varied.
 pub(crate) const MOST_BY_SMALL_SAMPLE: usize = 32;
