@@ -16,7 +16,7 @@ pub use stream::Stream;
 pub use text_ends::Hit;
 pub use text_search::{
     EndFinder, HitSearch, LEAST_SAMPLE, LEAST_WITH_FINDER, MOST_WITHOUT_FINDER, PrefilterSearch,
-    TextSearch, first_end_after, make_if_long,
+    TextSearch, first_end_after, make_if_long, next_end_by,
 };
 pub use tuned_plan::TunedPlan;
 

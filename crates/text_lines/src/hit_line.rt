@@ -8,7 +8,7 @@ ghost use Rattle.text_lines.specs.HitLines.{AllMiss, IsFirstHitLine};
 
 use crate::column::Column;
 use crate::cutting::{split_line_after, split_near_line, split_prefix};
-use flow_scan::{Compiled, EndFinder, TextSearch};
+use flow_scan::{Compiled, EndFinder, TextSearch, next_end_by};
 use std::marker::Model;
 
 /// A line that holds a literal, with the text round it.
@@ -211,27 +211,6 @@ impl<'a> HitLines<'a> {
         let from = self.text.len() - self.rest.len();
         let end = next_end_by(&mut self.finder, &mut self.search, from)?;
         Some(end - from)
-    }
-}
-
-/// The next position of a search's text at which some literal ends, by the finder if there is one, and otherwise by the
-/// plan alone.
-#[inline]
-pub fn next_end_by(
-    finder: &mut Option<EndFinder>,
-    search: &mut TextSearch<'_>,
-    from: usize,
-) -> Option<usize>
-    requires { IfSome finder.old (λ list. list ≡ search.old.plan.literals) }
-    ensures same { finder.new ≡ finder.old }
-    ensures search { search.new ≡ search.old }
-    ensures next { MatchOption result
-        (NoEndAfter search.old.plan.literals search.old.text from)
-        (IsNextEnd search.old.plan.literals search.old.text from) }
-{
-    match finder {
-        Some(finder) => finder.next_end_in(search, from),
-        None => search.next_end_after(from),
     }
 }
 

@@ -15,4 +15,4 @@ pub use counting::count_newlines;
 pub use cutting::{
     CutLine, has_short_lines, split_ended, split_line, split_next_line, suits_masks,
 };
-pub use hit_line::{HitLine, HitLines, next_end_by};
+pub use hit_line::{HitLine, HitLines};

@@ -13,7 +13,7 @@ mod tuning;
 
 pub use end_finder::EndFinder;
 pub use hit_search::{HitSearch, PrefilterSearch};
-pub use optional_finder::make_if_long;
+pub use optional_finder::{make_if_long, next_end_by};
 pub use strategy::Engine;
 pub use text_search::{TextSearch, first_end_after};
 pub use tuning::{LEAST_SAMPLE, LEAST_WITH_FINDER, MOST_WITHOUT_FINDER};

@@ -1,9 +1,11 @@
 //! A finder that is made only once it is likely to pay.
 ghost use Rattle.std.specs.Prelude.{◌≡◌, IfSome};
+ghost use Rattle.text_search.specs.Searched.{FindsNext};
 
 use crate::end_finder::EndFinder;
 use crate::hit_search::{HitSearch, PrefilterSearch};
 use crate::strategy::has_use;
+use crate::text_search::TextSearch;
 use crate::tuning::LEAST_WITH_FINDER;
 use lit_plan::Compiled;
 use std::alloc::{AllocError, Global};
@@ -40,6 +42,25 @@ impl HitSearch for Option<EndFinder> {
             Some(finder) => finder.add_spans(compiled, text, from, most, out),
             None => PrefilterSearch.add_spans(compiled, text, from, most, out),
         }
+    }
+}
+
+/// The next position of a search's text at which some literal ends, by the finder if there is one, and otherwise by the
+/// plan alone.
+#[inline]
+pub fn next_end_by(
+    finder: &mut Option<EndFinder>,
+    search: &mut TextSearch<'_>,
+    from: usize,
+) -> Option<usize>
+    requires { IfSome finder.old (λ list. list ≡ search.old.plan.literals) }
+    ensures same { finder.new ≡ finder.old }
+    ensures search { search.new ≡ search.old }
+    ensures next { FindsNext search.old.plan.literals search.old.text from result }
+{
+    match finder {
+        Some(finder) => finder.next_end_in(search, from),
+        None => search.next_end_after(from),
     }
 }
 
