@@ -13,8 +13,8 @@ use Rattle.byte_lanes.specs.PlacesAfter.{NoneWithin}
 module _ (P : ℕ → Type 0) where
   -- two stretches without places, one after the other
   pub quiet_on : (from mid to : ℕ) → NoneWithin P from mid → NoneWithin P mid to → NoneWithin P from to
-  quiet_on from mid to prefix back end low high holds =
-      ⊎_elim (λ after. back end after high holds) (λ before. prefix end low before holds) (cases_lt mid end)
+  quiet_on from mid to p q end low high holds =
+      ⊎_elim (λ after. q end after high holds) (λ before. p end low before holds) (cases_lt mid end)
 
   -- a number of positions in a row at which it does not hold
   pub quiet_in_row : (from count : ℕ) → ((k : ℕ) → k < count → ¬ P (from + 1 + k)) → NoneWithin P from (from + count)

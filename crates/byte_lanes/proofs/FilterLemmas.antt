@@ -13,26 +13,26 @@ use Rattle.std.proofs.lemmas.Simd.{get_or-put_chunk_below, get_or-put_chunk_at}
 use Rattle.byte_lanes.proofs.LaneLemmas.{lanes_named}
 
 -- two vectors, one after the other, hold 64 numbers
-pub joined_lanes : (prefix back : List ℕ) (f : ℕ → ℕ) (at : ℕ) → HasLanes prefix (λ k. f (at + k)) → HasLanes back (λ k. f (at + 32 + k)) → (k : ℕ) → k < 64
-    → get_or (prefix ++ back) k 0 ≡ f (at + k)
-joined_lanes prefix back f at p q k l =
-    let long_prefix = p.long in
-    let long_back = q.long in
-    ⊎_elim (λ low. get_or_append_left prefix back 0 k (omega arith) ∙ p.each k low)
-    (λ high. get_or-append_right prefix back 32 k 0 p.long high ∙ q.each (k - 32) (omega arith) ∙ ap f (omega arith))
+pub joined_lanes : (low high : List ℕ) (f : ℕ → ℕ) (at : ℕ) → HasLanes low (λ k. f (at + k)) → HasLanes high (λ k. f (at + 32 + k)) → (k : ℕ) → k < 64
+    → get_or (low ++ high) k 0 ≡ f (at + k)
+joined_lanes low high f at p q k l =
+    let long_low = p.long in
+    let long_high = q.long in
+    ⊎_elim (λ below. get_or_append_left low high 0 k (omega arith) ∙ p.each k below)
+    (λ above. get_or-append_right low high 32 k 0 p.long above ∙ q.each (k - 32) (omega arith) ∙ ap f (omega arith))
     (cases_lt k 32)
 
 -- the bits of nonzero lanes stand for 64 positions
-pub set_by_lanes : (prefix back : List ℕ) (f : ℕ → ℕ) (at mask : ℕ) → HasLanes prefix (λ k. f (at + k)) → HasLanes back (λ k. f (at + 32 + k))
-    → ((k : ℕ) → (bit_at mask k ≡ 1) ↔ (get_or (prefix ++ back) k 0 ≢ 0)) → (k : ℕ) → (bit_at mask k ≡ 1) ↔ ((k < 64) × (f (at + k) ≢ 0))
-set_by_lanes prefix back f at mask p q bits k =
-    let long_prefix = p.long in
-    let long_back = q.long in
-    let past : 64 ≤ k → get_or (prefix ++ back) k 0 ≡ 0 = λ h. get_or_past (prefix ++ back) k 0 (omega (arith, length-append prefix back)) in
+pub set_by_lanes : (low high : List ℕ) (f : ℕ → ℕ) (at mask : ℕ) → HasLanes low (λ k. f (at + k)) → HasLanes high (λ k. f (at + 32 + k))
+    → ((k : ℕ) → (bit_at mask k ≡ 1) ↔ (get_or (low ++ high) k 0 ≢ 0)) → (k : ℕ) → (bit_at mask k ≡ 1) ↔ ((k < 64) × (f (at + k) ≢ 0))
+set_by_lanes low high f at mask p q bits k =
+    let long_low = p.long in
+    let long_high = q.long in
+    let past : 64 ≤ k → get_or (low ++ high) k 0 ≡ 0 = λ h. get_or_past (low ++ high) k 0 (omega (arith, length-append low high)) in
     ⊎_elim (λ l.
-    let same = joined_lanes prefix back f at p q k l in
+    let same = joined_lanes low high f at p q k l in
     (λ set. (l, λ none. (bits k).0 set (same ∙ none)), λ h. (bits k).1 (λ none. h.1 (sym same ∙ none))))
-    (λ high. (λ set. absurd ((bits k).0 set (past high)), λ h. absurd (omega (arith, h.0))))
+    (λ above. (λ set. absurd ((bits k).0 set (past above)), λ h. absurd (omega (arith, h.0))))
     (cases_lt k 64)
 
 -- where two numbers have no bit together, each has none
@@ -44,18 +44,18 @@ or_none a b none =
     )
 
 -- where no lane of both vectors joined is set, the mask without bits is right for the 64 positions
-pub none_set : (prefix back joined : List ℕ) (f : ℕ → ℕ) (at : ℕ) → HasLanes prefix (λ k. f (at + k)) → HasLanes back (λ k. f (at + 32 + k))
-    → HasLanes joined (λ k. bit_or (get_or prefix k 0) (get_or back k 0)) → ((k : ℕ) → k < 32 → ¬ (get_or joined k 0 ≢ 0))
+pub none_set : (low high joined : List ℕ) (f : ℕ → ℕ) (at : ℕ) → HasLanes low (λ k. f (at + k)) → HasLanes high (λ k. f (at + 32 + k))
+    → HasLanes joined (λ k. bit_or (get_or low k 0) (get_or high k 0)) → ((k : ℕ) → k < 32 → ¬ (get_or joined k 0 ≢ 0))
     → (k : ℕ) → (bit_at 0 k ≡ 1) ↔ ((k < 64) × (f (at + k) ≢ 0))
-none_set prefix back joined f at p q h none k = (
+none_set low high joined f at p q h none k = (
   λ s. absurd (omega (arith, s, bit_at-zero k)),
   λ (l, some).
       elim (cases_lt k 32) [
-        | inl low ↦ absurd (none k low (λ zero. some (sym (p.each k low) ∙ (or_none _ _ (sym (h.each k low) ∙ zero)).0)))
-        | inr high ↦
-            let low : k - 32 < 32 = omega arith in
+        | inl below ↦ absurd (none k below (λ zero. some (sym (p.each k below) ∙ (or_none _ _ (sym (h.each k below) ∙ zero)).0)))
+        | inr above ↦
+            let below : k - 32 < 32 = omega arith in
             let place : at + 32 + (k - 32) ≡ at + k = omega arith in
-            absurd (none (k - 32) low (λ zero. some (ap f (sym place) ∙ sym (q.each (k - 32) low) ∙ (or_none _ _ (sym (h.each (k - 32) low) ∙ zero)).1)))
+            absurd (none (k - 32) below (λ zero. some (ap f (sym place) ∙ sym (q.each (k - 32) below) ∙ (or_none _ _ (sym (h.each (k - 32) below) ∙ zero)).1)))
       ],
 )
 
@@ -66,9 +66,9 @@ pub lanes_by_entries : {low high v : List ℕ} (bytes of_low of_high : List ℕ)
 lanes_by_entries bytes of_low of_high p q h = lanes_named _ h (λ k l i. bit_and (p.each k l i) (q.each k l i))
 
 -- what all positions give the lanes
-pub lanes_by_tables : (masks : Masks) {third second prefix last v : List ℕ} (a b c : List ℕ) → HasLanes third (λ k. value_at masks 0 (get_or a k 0))
-    → HasLanes second (λ k. value_at masks 1 (get_or b k 0)) → HasLanes prefix (λ k. bit_and (get_or third k 0) (get_or second k 0))
-    → HasLanes last (λ k. value_at masks 2 (get_or c k 0)) → HasLanes v (λ k. bit_and (get_or prefix k 0) (get_or last k 0))
+pub lanes_by_tables : (masks : Masks) {third second first_two last v : List ℕ} (a b c : List ℕ) → HasLanes third (λ k. value_at masks 0 (get_or a k 0))
+    → HasLanes second (λ k. value_at masks 1 (get_or b k 0)) → HasLanes first_two (λ k. bit_and (get_or third k 0) (get_or second k 0))
+    → HasLanes last (λ k. value_at masks 2 (get_or c k 0)) → HasLanes v (λ k. bit_and (get_or first_two k 0) (get_or last k 0))
     → HasLanes v (λ k. table_value masks (get_or a k 0) (get_or b k 0) (get_or c k 0))
 unfolding table_value
 lanes_by_tables masks a b c p q f r h =

@@ -89,12 +89,12 @@ impl MaskEntries {
         ensures { (masks : Masks) → AreMaskEntries masks self.now → HasLanes result (λ k. table_value masks
             (slice_index third k) (slice_index second k) (slice_index last k)) }
     {
-        let prefix = both_wide(
+        let first_two = both_wide(
             Self::at_position(&self.third_low, &self.third_high, third),
             Self::at_position(&self.second_low, &self.second_high, second),
         );
         both_wide(
-            prefix,
+            first_two,
             Self::at_position(&self.last_low, &self.last_high, last),
         )
     }

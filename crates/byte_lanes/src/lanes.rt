@@ -79,11 +79,11 @@ pub(crate) fn look_up(table: u8x32, halves: u8x32) -> u8x32
 
 /// Bit k is set where lane k of the two, one after the other, is not zero.
 #[inline(always)]
-pub(crate) fn nonzero_bits(prefix: u8x32, back: u8x32) -> u64
-    ensures { (k : ℕ) → (bit_at result k ≡ 1) ↔ (slice_index (prefix ++ back) k ≢ 0) }
+pub(crate) fn nonzero_bits(low: u8x32, high: u8x32) -> u64
+    ensures { (k : ℕ) → (bit_at result k ≡ 1) ↔ (slice_index (low ++ high) k ≢ 0) }
 {
-    let joined: u8x64 = prefix.shuffle(
-        back,
+    let joined: u8x64 = low.shuffle(
+        high,
         [
             0, 1, 2, 3, 4, 5, 6, 7, 8, 9, 10, 11, 12, 13, 14, 15, 16, 17, 18, 19, 20, 21, 22, 23,
             24, 25, 26, 27, 28, 29, 30, 31, 32, 33, 34, 35, 36, 37, 38, 39, 40, 41, 42, 43, 44, 45,

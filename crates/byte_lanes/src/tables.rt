@@ -48,11 +48,11 @@ impl Tables {
         ensures { (masks : Masks) → AreTablesOf masks self.now → HasLanes result (λ k. table_value masks
             (slice_index third k) (slice_index second k) (slice_index last k)) }
     {
-        let prefix = both(
+        let first_two = both(
             entries(self.third_low, self.third_high, third),
             entries(self.second_low, self.second_high, second),
         );
-        both(prefix, entries(self.last_low, self.last_high, last))
+        both(first_two, entries(self.last_low, self.last_high, last))
     }
 
     /// The filter byte of each three bytes that stand in a row from one of 32 positions on.
@@ -70,14 +70,14 @@ impl Tables {
         requires { at + 66 ≤ length text.now }
         ensures { (masks : Masks) → AreTablesOf masks self.now → IsMaskOf (IsMarked masks text.now) at 64 result }
     {
-        let prefix = self.filter_at(text, at);
-        let back = self.filter_at(text, at + 32);
+        let low = self.filter_at(text, at);
+        let high = self.filter_at(text, at + 32);
         // To see so that no lane is set costs less than 64 bits. Measured: a text without matches is searched 1.08
         // times as fast, a text with a candidate in every second block at most a twentieth slower.
-        if !any_lane(either(prefix, back)) {
+        if !any_lane(either(low, high)) {
             return 0;
         }
-        nonzero_bits(prefix, back)
+        nonzero_bits(low, high)
     }
 }
 

@@ -137,15 +137,15 @@ fn short_bits<T: EndTest>(test: &T, text: &[u8], from: usize) -> EndBits
     ensures within { result.done ≤ length text.now }
     ensures ended { result.mask ≡ 0 → result.done ≡ length text.now }
 {
-    let prefix = from.max(test.reach() - 1);
-    if text.len() <= prefix || text.len() > MOST_COPIED {
+    let start = from.max(test.reach() - 1);
+    if text.len() <= start || text.len() > MOST_COPIED {
         return plain_bits(test, text, from, text.len());
     }
-    let start = plain_bits(test, text, from, prefix);
-    if start.mask != 0 {
-        return start;
+    let bits = plain_bits(test, text, from, start);
+    if bits.mask != 0 {
+        return bits;
     }
-    copied_bits(test, text, prefix)
+    copied_bits(test, text, start)
 }
 
 /// The first ends after a position with a candidate among them, or none at the end of the text. Testing 64 at a time
@@ -160,12 +160,12 @@ fn next_bits<T: EndTest>(test: &T, text: &[u8], from: usize) -> EndBits
     if text.len() < reach + 63 {
         return short_bits(test, text, from);
     }
-    let prefix = from.max(reach - 1);
-    let start = plain_bits(test, text, from, prefix);
-    if start.mask != 0 {
-        return start;
+    let start = from.max(reach - 1);
+    let bits = plain_bits(test, text, from, start);
+    if bits.mask != 0 {
+        return bits;
     }
-    wide_bits(test, text, prefix)
+    wide_bits(test, text, start)
 }
 
 /// The first ends after a position that include one passed by the prefilter, or none at the end of the text. The test

@@ -24,7 +24,7 @@ pub struct HitLine<'t> {
 impl<'t> HitLine<'t> {
     /// The first line of a text, with what stands after its newline.
     #[inline(always)]
-    fn in_prefix(text: &'t [u8], line: &'t [u8], after: &'t [u8]) -> HitLine<'t>
+    fn first_of(text: &'t [u8], line: &'t [u8], after: &'t [u8]) -> HitLine<'t>
         ensures missed { result.missed.now ≡ [] }
         ensures line { result.line.now ≡ line.now }
         ensures after { result.after.now ≡ after.now }
@@ -133,7 +133,7 @@ impl<'a> HitLines<'a> {
         let end = self.first_end()?;
         if let Some((line, after)) = split_line_after(text, end) {
             self.column.note(end);
-            return Some(HitLine::in_prefix(text, line, after));
+            return Some(HitLine::first_of(text, line, after));
         }
         line_round(compiled, &mut self.column, text, end)
     }
@@ -172,7 +172,7 @@ impl<'a> HitLines<'a> {
         if line.len() < at {
             return None;
         }
-        Some(HitLine::in_prefix(text, line, after))
+        Some(HitLine::first_of(text, line, after))
     }
 
     /// Whether some literal ends after the first `at` bytes of the rest: the literal found last in this way, or another.

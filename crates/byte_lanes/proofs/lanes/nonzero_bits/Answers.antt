@@ -7,7 +7,7 @@ use Rattle.byte_lanes.proofs.lanes.nonzero_bits.Goals as goal
 
 pub returns : goal.returns
 returns c k =
-    let v = c.args.prefix ++ c.args.back in
-    let long : length v ≡ 64 = omega (arith, length-append c.args.prefix c.args.back, c.fits-prefix.0, c.fits-back.0) in
+    let v = c.args.low ++ c.args.high in
+    let long : length v ≡ 64 = omega (arith, length-append c.args.low c.args.high, c.fits-low.0, c.fits-high.0) in
     subst (λ (us : List ℕ). (bit_at (mask_l (map (top 7) (zip2 (λ m n. cond (not (eqb m n)) 255 0) us (replicate 64 0))) % 2 ^ 64) k ≡ 1) ↔ (get_or v k 0 ≢ 0))
     (sym (pick_l_whole 0 v 64 long)) (bit_of_nonzero w8 v 64 k long (omega arith))

@@ -8,6 +8,6 @@ returns c masks wide =
     lanes_by_tables masks c.args.third c.args.second c.args.last
     (c.entries.ensures _ _ wide.third_low wide.third_high)
     (c.entries-2.ensures _ _ wide.second_low wide.second_high)
-    c.both-prefix.ensures
+    c.both-first_two.ensures
     (c.entries-3.ensures _ _ wide.last_low wide.last_high)
     c.both.ensures

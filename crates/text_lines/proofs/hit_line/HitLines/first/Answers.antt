@@ -14,6 +14,6 @@ pub returns-in-Some-split_line_after-clause-hit : goal.returns-in-Some-split_lin
 returns-in-Some-split_line_after-clause-hit c =
     let next = subst (λ (s : HitSearch). IsNextEnd s.plan.literals s.rest 0 c.in_ok-end.end) (c.likely.ensures.same ∙ sym c.self.view_is) c.in_ok-end.ensures.next in
     let near = c.in-Some-split_line_after in
-    rw (← c.self.view_is, c.in_prefix.ensures.line, c.in_prefix.ensures.after)
-    (first-line-hit c.self.inside.compiled.now.literals c.self.invariant.normal c.self.invariant.apart c.self.inside.rest.now c.in_prefix.result.missed.now near.line.now near.after.now c.in_ok-end.end
-    next.after next.here c.in_prefix.ensures.missed near.ensures.line near.ensures.after)
+    rw (← c.self.view_is, c.first_of.ensures.line, c.first_of.ensures.after)
+    (first-line-hit c.self.inside.compiled.now.literals c.self.invariant.normal c.self.invariant.apart c.self.inside.rest.now c.first_of.result.missed.now near.line.now near.after.now c.in_ok-end.end
+    next.after next.here c.first_of.ensures.missed near.ensures.line near.ensures.after)
