@@ -2,8 +2,8 @@
 //! literals, 64 or 128 at a time, by the tables of a filter or by bytes. It knows no literals. `filter` and
 //! `any_set` work on slices; no search calls them.
 //!
-//! Theorems: `skip_unmarked` passes no position that a test lets pass. `Nibbles` marks exactly those of 64
-//! positions that masks let pass. `filter` writes the filter number of each position, for each length.
+//! Theorems: `skip_unmarked` skips no position that a test lets pass. The mask of `Nibbles` has exactly those of 64
+//! positions that its tables let pass. `filter` writes the filter number of each position, for each length.
 #![tactic(auto)]
 
 mod all_of;
