@@ -1,9 +1,9 @@
 //! The test of ends that passes what both of two tests pass.
 ghost use Rattle.std.specs.Prelude.{◌≡◌};
 
+use crate::byte_turns::Turn;
 use crate::end_test::EndTest;
 use crate::lanes::both;
-use crate::rare_look::Turn;
 use std::simd::prelude::*;
 
 /// Two tests of ends, joined: it passes what both pass. In its turns it looks for what the first test reads, and then

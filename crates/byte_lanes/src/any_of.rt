@@ -1,8 +1,8 @@
 //! The test of ends that passes what either of two tests passes.
 ghost use Rattle.std.specs.Prelude.{◌≡◌, max};
 
+use crate::byte_turns::Turn;
 use crate::end_test::EndTest;
-use crate::rare_look::Turn;
 
 /// Two tests of ends, joined: it passes what either passes.
 #[derive(Clone, Copy, Debug, PartialEq, Eq)]

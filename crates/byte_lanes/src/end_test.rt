@@ -3,8 +3,8 @@ ghost use Rattle.std.specs.Prelude.{◌≡◌, ℕ, ◌+◌, ◌<◌, ◌≤◌,
 ghost use Rattle.byte_lanes.specs.Prefixes.{IsPrefixOf};
 ghost use Rattle.byte_lanes.specs.Lanes.{IsMaskOf, SetsLanes};
 
+use crate::byte_turns::Turn;
 use crate::lanes::any_lane_of;
-use crate::rare_look::Turn;
 use std::simd::prelude::*;
 
 /// A test of ends.

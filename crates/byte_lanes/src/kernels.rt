@@ -5,7 +5,7 @@ ghost use Rattle.byte_lanes.specs.Filtered.{IsFiltered};
 
 use crate::entries::MaskEntries;
 use crate::lanes::load;
-use crate::plain::filter_rest;
+use crate::one_by_one::filter_rest;
 use crate::wide_lanes::{load_wide, nonzero_wide, store_wide};
 use nib_mask::Masks;
 

@@ -4,7 +4,7 @@ ghost use Rattle.nib_mask.specs.Halves.{widened};
 ghost use Rattle.byte_lanes.specs.WideTables.{AreTablesOf};
 
 use crate::end_test::EndTest;
-use crate::plain;
+use crate::one_by_one;
 use crate::tables::Tables;
 use nib_mask::ByteMasks;
 
@@ -41,7 +41,7 @@ impl<'a> EndTest for Nibbles<'a> {
     }
 
     fn is_candidate(&self, text: &[u8], end: usize) -> bool {
-        plain::is_candidate(self.masks, text, end)
+        one_by_one::is_candidate(self.masks, text, end)
     }
 
     fn local_law(&self, text: &[u8], longer: &[u8]) {}

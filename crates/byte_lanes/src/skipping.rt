@@ -2,9 +2,9 @@
 ghost use Rattle.std.specs.Prelude.{ℕ, ◌+◌, ◌<◌, ◌≤◌, IsTrue, length};
 ghost use Rattle.byte_lanes.specs.PlacesAfter.{NoneWithin};
 
+use crate::byte_turns::{ByteTurns, Turn};
 use crate::end_test::EndTest;
-use crate::rare_look::{RareLook, Turn};
-use crate::tuning::NEAR;
+use crate::tuning::SHORT_RANGE;
 
 /// The number of ends tested together.
 const BLOCK: usize = 128;
@@ -18,8 +18,8 @@ pub fn skip_unmarked<T: EndTest>(test: &T, text: &[u8], from: usize) -> usize
     ensures within { result ≤ length text.now }
     ensures quiet { NoneWithin (T.candidate test.now text.now) from result }
 {
-    let near = if text.len() - from > NEAR {
-        from + NEAR
+    let near = if text.len() - from > SHORT_RANGE {
+        from + SHORT_RANGE
     } else {
         text.len()
     };
@@ -28,29 +28,29 @@ pub fn skip_unmarked<T: EndTest>(test: &T, text: &[u8], from: usize) -> usize
     if near - seen >= BLOCK || text.len() - seen < BLOCK || test.may_pass(text, seen + 1) {
         return seen;
     }
-    skip_far(test, text, seen)
+    skip_long_range(test, text, seen)
 }
 
 /// A position up to which there is no candidate after `from`. One byte of each literal is searched for alone, and the
 /// block at which it stops is searched by all bytes. Where each byte turns out to be common, so is a longer piece of
 /// the text.
 #[inline(never)]
-fn skip_far<T: EndTest>(test: &T, text: &[u8], from: usize) -> usize
+fn skip_long_range<T: EndTest>(test: &T, text: &[u8], from: usize) -> usize
     requires after { T.reaches test.now ≤ from + 1 }
     requires within { from ≤ length text.now }
     ensures after { from ≤ result }
     ensures within { result ≤ length text.now }
     ensures quiet { NoneWithin (T.candidate test.now text.now) from result }
 {
-    let mut look = RareLook::new();
+    let mut turns = ByteTurns::new();
     let mut seen = from;
     while text.len() - seen >= BLOCK {
-        let stop = skip_blocks(test, Some(look.turn()), text, seen, text.len());
+        let stop = skip_blocks(test, Some(turns.turn()), text, seen, text.len());
         if text.len() - stop < BLOCK {
             return stop;
         }
-        look.note((stop - seen) / BLOCK);
-        let to = text.len().min((stop + BLOCK).saturating_add(look.wait()));
+        turns.note((stop - seen) / BLOCK);
+        let to = text.len().min((stop + BLOCK).saturating_add(turns.wait()));
         seen = skip_blocks(test, None, text, stop, to);
         if to - seen >= BLOCK {
             return seen;

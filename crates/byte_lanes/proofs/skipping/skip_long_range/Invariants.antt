@@ -1,6 +1,6 @@
 use Rattle.std.proofs.Common.{◌≤◌, ◌-◌, length}
 use Rattle.byte_lanes.specs.PlacesAfter.{NoneWithin}
-use Rattle.byte_lanes.proofs.skipping.skip_far.Given as goal
+use Rattle.byte_lanes.proofs.skipping.skip_long_range.Given as goal
 
 abbrev pub invariant-loop-seen : goal.invariant-loop-seen
 invariant-loop-seen g l =

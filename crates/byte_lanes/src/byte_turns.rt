@@ -24,7 +24,7 @@ impl Turn {
 /// Which byte is searched for alone, and its gain so far. The rarest byte of a text is mostly one of the three that are
 /// rare in usual text, but not always the first. So each has a turn, until one is rare.
 #[derive(Clone, Copy, Debug)]
-pub(crate) struct RareLook {
+pub(crate) struct ByteTurns {
     turn: Turn,
     /// The number of blocks gained, less the cost of the stops.
     credit: usize,
@@ -32,11 +32,11 @@ pub(crate) struct RareLook {
     wait: usize,
 }
 
-impl RareLook {
+impl ByteTurns {
     /// Before any text.
     #[inline(always)]
-    pub fn new() -> RareLook {
-        RareLook {
+    pub fn new() -> ByteTurns {
+        ByteTurns {
             turn: Turn::First,
             credit: START_CREDIT,
             wait: 0,
