@@ -1,5 +1,5 @@
 //! The test of ends that passes what either of two tests passes.
-ghost use Rattle.std.specs.Prelude.{◌≡◌, max};
+ghost use Rattle.std.specs.Prelude.{◌≡◌};
 
 use crate::byte_turns::Turn;
 use crate::end_test::EndTest;
@@ -7,18 +7,8 @@ use crate::end_test::EndTest;
 /// Two tests of ends, joined: it passes what either passes.
 #[derive(Clone, Copy, Debug, PartialEq, Eq)]
 pub struct AnyOf<A, B> {
-    one: A,
-    other: B,
-}
-
-impl<A, B> AnyOf<A, B> {
-    #[inline(always)]
-    pub fn new(one: A, other: B) -> AnyOf<A, B>
-        ensures one { result.one ≡ one }
-        ensures other { result.other ≡ other }
-    {
-        AnyOf { one, other }
-    }
+    pub one: A,
+    pub other: B,
 }
 
 impl<A: EndTest, B: EndTest> EndTest for AnyOf<A, B> {

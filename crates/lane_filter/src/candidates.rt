@@ -199,7 +199,10 @@ fn two_nibbles_bits(first: &ByteMasks, last: &ByteMasks, text: &[u8], from: usiz
     ensures within { result.done ≤ length text.now }
     ensures ended { result.mask ≡ 0 → result.done ≡ length text.now }
 {
-    let two = AnyOf::new(Nibbles::new(first), Nibbles::new(last));
+    let two = AnyOf {
+        one: Nibbles::new(first),
+        other: Nibbles::new(last),
+    };
     next_bits(&two, text, from)
 }
 

@@ -93,12 +93,12 @@ impl Prefilter {
     }
 
     /// By a pair of each of two literals.
-    fn of_two(one: BytePair, two: BytePair) -> Prefilter
-        ensures { (l : Literals) (ends : List ℕ) → AreTwoPairs l one two → IsPrefilterOf l ends result }
+    fn of_two(one: BytePair, other: BytePair) -> Prefilter
+        ensures { (l : Literals) (ends : List ℕ) → AreTwoPairs l one other → IsPrefilterOf l ends result }
     {
-        match (Exact::of(one), Exact::of(two)) {
-            (Some(one), Some(two)) => Prefilter::TwoExactPairs(AnyOf::new(one, two)),
-            _ => Prefilter::TwoPairs(AnyOf::new(one, two)),
+        match (Exact::of(one), Exact::of(other)) {
+            (Some(one), Some(other)) => Prefilter::TwoExactPairs(AnyOf { one, other }),
+            _ => Prefilter::TwoPairs(AnyOf { one, other }),
         }
     }
 
@@ -108,10 +108,20 @@ impl Prefilter {
             → IsPrefilterOf l ends result }
     {
         match (Exact::of(one), Exact::of(two), Exact::of(three)) {
-            (Some(one), Some(two), Some(three)) => {
-                Prefilter::ThreeExactPairs(AnyOf::new(one, AnyOf::new(two, three)))
-            }
-            _ => Prefilter::ThreePairs(AnyOf::new(one, AnyOf::new(two, three))),
+            (Some(one), Some(two), Some(three)) => Prefilter::ThreeExactPairs(AnyOf {
+                one,
+                other: AnyOf {
+                    one: two,
+                    other: three,
+                },
+            }),
+            _ => Prefilter::ThreePairs(AnyOf {
+                one,
+                other: AnyOf {
+                    one: two,
+                    other: three,
+                },
+            }),
         }
     }
 }
