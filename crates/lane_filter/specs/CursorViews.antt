@@ -9,7 +9,7 @@ use Rattle.lane_filter.specs.declared.candidates.Candidates.TheInside.{Inside}
 abbrev pub cursor_of : Inside → Cursor
 cursor_of fields = record { prefilter = fields.prefilter.now; text = fields.text.now; from = fields.from }
 
--- the mask has the candidates after the last end returned and up to `done`
+-- the mask of `ends` has the candidates after the last end returned and up to `done`
 pub record IsReady (fields : Inside) : Type 0 where
-  pub within : fields.done ≤ length fields.text.now
-  pub marked : AreMarked (Passes fields.prefilter.now fields.text.now) fields.from fields.first fields.done fields.mask
+  pub within : fields.ends.done ≤ length fields.text.now
+  pub marked : AreMarked (Passes fields.prefilter.now fields.text.now) fields.from fields.ends.first fields.ends.done fields.ends.mask

@@ -213,9 +213,7 @@ pub struct Candidates<'a> {
     prefilter: &'a Prefilter,
     text: &'a [u8],
     from: usize,
-    first: usize,
-    mask: u64,
-    done: usize,
+    ends: EndBits,
 }
 
 impl<'a> Model for Candidates<'a> {
@@ -243,9 +241,11 @@ impl<'a> Candidates<'a> {
             prefilter,
             text,
             from,
-            first: from,
-            mask: 0,
-            done: from,
+            ends: EndBits {
+                first: from,
+                mask: 0,
+                done: from,
+            },
         }
     }
 
@@ -261,21 +261,18 @@ impl<'a> Candidates<'a> {
             (length self.old.text)) }
         ensures stays { IfNone result (self.new.from ≡ self.old.from) }
     {
-        if self.mask == 0 {
-            if self.done == self.text.len() {
+        if self.ends.mask == 0 {
+            if self.ends.done == self.text.len() {
                 return None;
             }
-            let ends = prefilter_bits(self.prefilter, self.text, self.done);
-            self.first = ends.first;
-            self.mask = ends.mask;
-            self.done = ends.done;
-            if self.mask == 0 {
+            self.ends = prefilter_bits(self.prefilter, self.text, self.ends.done);
+            if self.ends.mask == 0 {
                 return None;
             }
         }
-        let (bit, rest) = split_lowest(self.mask);
-        self.mask = rest;
-        self.from = self.first + bit;
+        let (bit, rest) = split_lowest(self.ends.mask);
+        self.ends.mask = rest;
+        self.from = self.ends.first + bit;
         Some(self.from)
     }
 
@@ -288,10 +285,10 @@ impl<'a> Candidates<'a> {
         ensures text { self.new.text ≡ self.old.text }
         ensures from { self.new.from ≡ place }
     {
-        if self.from <= place && place < self.done {
-            let passed = (place + 1).saturating_sub(self.first);
+        if self.from <= place && place < self.ends.done {
+            let passed = (place + 1).saturating_sub(self.ends.first);
             if passed < 64 {
-                self.mask = from_bit(self.mask, passed);
+                self.ends.mask = from_bit(self.ends.mask, passed);
                 self.from = place;
                 return;
             }
