@@ -1,7 +1,7 @@
 //! The lines of a text that hold a literal, one after another.
 ghost use Rattle.std.specs.Prelude.{◌≡◌, ◌<◌, ◌≤◌, [], All, IfSome, IsTrue, MatchOption, length};
 ghost use Rattle.lit_base.specs.Lines.{IsOnePiece, open_rest};
-ghost use Rattle.lit_base.specs.Literals.{IsNormal};
+ghost use Rattle.lit_base.specs.Literals.{IsNormal, Literals};
 ghost use Rattle.lit_base.specs.Occurrences.{HasEnd};
 ghost use Rattle.lit_base.specs.NextEnds.{IsNextEnd, NoEndAfter};
 ghost use Rattle.text_lines.specs.HitLines.{AllMiss, IsFirstHitLine};
@@ -126,7 +126,6 @@ impl<'a> HitLines<'a> {
             (λ hit. IsFirstHitLine self.old.plan.literals self.old.rest hit.missed.now hit.line.now hit.after.now) }
     {
         let text = self.rest;
-        let compiled = self.compiled;
         if let Some(hit) = self.likely() {
             return Some(hit);
         }
@@ -135,7 +134,7 @@ impl<'a> HitLines<'a> {
             self.column.note(end);
             return Some(HitLine::first_of(text, line, after));
         }
-        line_round(compiled, &mut self.column, text, end)
+        line_round(&mut self.column, text, end)
     }
 
     /// The first line of the rest, if a literal ends in it at the probable position. `None` says nothing about the rest.
@@ -216,19 +215,13 @@ impl<'a> HitLines<'a> {
 
 /// The line in which a literal ends, where it is the first end of one in a text of ended lines.
 #[inline(always)]
-fn line_round<'t>(
-    compiled: &Compiled,
-    column: &mut Column,
-    text: &'t [u8],
-    end: usize,
-) -> Option<HitLine<'t>>
-    requires end { IsNextEnd compiled.now.literals text.now 0 end }
+fn line_round<'t>(column: &mut Column, text: &'t [u8], end: usize) -> Option<HitLine<'t>>
+    requires some { 0 < end }
+    requires within { end ≤ length text.now }
     requires closed { open_rest text.now ≡ [] }
-    requires apart { All IsOnePiece compiled.now.literals.texts }
-    requires normal { IsNormal compiled.now.literals }
-    ensures { MatchOption result
-        (AllMiss compiled.now.literals text.now)
-        (λ hit. IsFirstHitLine compiled.now.literals text.now hit.missed.now hit.line.now hit.after.now) }
+    ensures { (l : Literals) → IsNormal l → All IsOnePiece l.texts → IsNextEnd l text.now 0 end → MatchOption result
+        (AllMiss l text.now)
+        (λ hit. IsFirstHitLine l text.now hit.missed.now hit.line.now hit.after.now) }
 {
     let (prefix, tail) = text.split_at(end - 1);
     let (missed, head) = split_prefix(prefix, text);

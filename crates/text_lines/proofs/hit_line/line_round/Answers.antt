@@ -9,9 +9,9 @@ pub split_prefix-requires : goal.split_prefix-requires
 split_prefix-requires c = prefix-whole c.args.text.now c.split_at.result.0.now (c.args.end - 1) c.split_at.ensures.front
 
 pub returns-in_err-ending : goal.returns-in_err-ending
-returns-in_err-ending c =
-    absurd (no-hit-open c.args.compiled.now.literals c.requires.normal c.args.text.now c.split_at.result.0.now c.split_at.result.1.now c.split_prefix.result.0.now c.split_prefix.result.1.now c.args.end
-    c.requires.end c.split_at.ensures.front c.split_at.ensures.back c.split_prefix.ensures c.in_err-ending.ensures c.requires.closed)
+returns-in_err-ending c = λ l normal apart next.
+    absurd (no-hit-open l normal c.args.text.now c.split_at.result.0.now c.split_at.result.1.now c.split_prefix.result.0.now c.split_prefix.result.1.now c.args.end
+    next c.split_at.ensures.front c.split_at.ensures.back c.split_prefix.ensures c.in_err-ending.ensures c.requires.closed)
 
 pub overflow_add-head : goal.overflow_add-head
 overflow_add-head c =
@@ -26,6 +26,6 @@ split_at-requires-3 c =
     omega (arith, room, ap length c.split_at-2.ensures.back, length-drop (length c.split_prefix.result.0.now) c.args.text.now)
 
 pub returns : goal.returns
-returns c =
-    first-hit c.args.compiled.now.literals c.requires.normal c.requires.apart c.args.text.now c.split_at.result.0.now c.split_at.result.1.now c.split_prefix.result.0.now c.split_prefix.result.1.now c.in_ok-ending.ending.now c.split_at-2.result.1.now c.split_at-3.result.0.now c.in_ok-ending.after.now c.args.end
-    c.requires.end c.split_at.ensures.front c.split_at.ensures.back c.split_prefix.ensures c.in_ok-ending.ensures c.split_at-2.ensures.back c.split_at-3.ensures.front
+returns c = λ l normal apart next.
+    first-hit l normal apart c.args.text.now c.split_at.result.0.now c.split_at.result.1.now c.split_prefix.result.0.now c.split_prefix.result.1.now c.in_ok-ending.ending.now c.split_at-2.result.1.now c.split_at-3.result.0.now c.in_ok-ending.after.now c.args.end
+    next c.split_at.ensures.front c.split_at.ensures.back c.split_prefix.ensures c.in_ok-ending.ensures c.split_at-2.ensures.back c.split_at-3.ensures.front

@@ -17,3 +17,16 @@ returns-in-Some-split_line_after-clause-hit c =
     rw (← c.self.view_is, c.first_of.ensures.line, c.first_of.ensures.after)
     (first-line-hit c.self.inside.compiled.now.literals c.self.invariant.normal c.self.invariant.apart c.self.inside.rest.now c.first_of.result.missed.now near.line.now near.after.now c.in_ok-end.end
     next.after next.here c.first_of.ensures.missed near.ensures.line near.ensures.after)
+
+pub line_round-requires-clause-some : goal.line_round-requires-clause-some
+line_round-requires-clause-some c = c.in_ok-end.ensures.next.after
+
+pub line_round-requires-clause-within : goal.line_round-requires-clause-within
+line_round-requires-clause-within c =
+    let next = subst (λ (s : HitSearch). IsNextEnd s.plan.literals s.rest 0 c.in_ok-end.end) (c.likely.ensures.same ∙ sym c.self.view_is) c.in_ok-end.ensures.next in
+    next.within
+
+pub returns-clause-hit : goal.returns-clause-hit
+returns-clause-hit c =
+    let next = subst (λ (s : HitSearch). IsNextEnd s.plan.literals s.rest 0 c.in_ok-end.end) (c.likely.ensures.same ∙ sym c.self.view_is) c.in_ok-end.ensures.next in
+    rw (← c.self.view_is) (c.line_round.ensures c.self.inside.compiled.now.literals c.self.invariant.normal c.self.invariant.apart next)
