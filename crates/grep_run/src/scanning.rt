@@ -132,9 +132,8 @@ pub fn read_lines<'a, I: ByteIn, W: ByteOut>(
             Ok(0) => return end_lines(picker, block),
             Ok(count) => {
                 let is_long = (is_long_run || turn > 0) && count >= LEAST_SAMPLE;
-                match feed(request, is_long, picker, &piece[..count], block, out)? {
-                    Some(end) => return Ok(end),
-                    None => {}
+                if let Some(end) = feed(request, is_long, picker, &piece[..count], block, out)? {
+                    return Ok(end);
                 }
             }
         }
@@ -142,8 +141,8 @@ pub fn read_lines<'a, I: ByteIn, W: ByteOut>(
     Ok(End::Fault)
 }
 
-/// Takes the next piece of an input, and writes the lines that it ends. `Some` where it is the last one. If the input is long, the
-/// search tunes itself to it.
+/// Takes the next piece of an input, and writes the lines that it ends. `Some` where it is the last one. If the input is
+/// long, the search tunes itself to it.
 fn feed<'a, W: ByteOut>(
     request: &Request<'a>,
     is_long: bool,

@@ -34,7 +34,7 @@ loop-turn-preserved g d = record {
       let r = d.loop-turn.invariant.reading o test name c before s e in
       let some : 0 < d.in-Ok.count = search rules in
       so_far-more _ d.read_some.new.buf r d.in-Ok.count d.feed.new.picker d.feed.new.block _ d.in-Ok.ensures.bytes some d.in-Ok.ensures.within
-      (subst (λ x. FeedsPiece o test name r.done (take d.in-Ok.count d.read_some.new.buf) (Ok x) d.feed.new.picker d.feed.new.block before (writer g.W.ByteOut.written g.W.ByteOut.has_failed d.feed.new.out)) d.in-None.is (d.in_ok-end-in-Ok.ensures.answer o test name r.done _ r.stands));
+      (subst (λ x. FeedsPiece o test name r.done (take d.in-Ok.count d.read_some.new.buf) (Ok x) d.feed.new.picker d.feed.new.block before (writer g.W.ByteOut.written g.W.ByteOut.has_failed d.feed.new.out)) d.in_default.is (d.in_ok-end-in-Ok.ensures.answer o test name r.done _ r.stands));
   room = omega (arith, d.loop-turn.invariant.room);
   plan = d.in_ok-end-in-Ok.ensures.plan ∙ d.loop-turn.invariant.plan;
   flag = search rules;
