@@ -30,7 +30,8 @@ pub trait EndTest {
         requires { IsPrefixOf text.now longer.now }
         ensures { (end : ℕ) → end ≤ length text.now → candidate self.now text.now end ↔ candidate self.now longer.now end };
 
-    /// 255 in each of 32 lanes where an occurrence may end, and perhaps in others: in all, if the test has no quick way.
+    /// 255 in each of 32 lanes where an occurrence may end, and perhaps in others: in all, if the test has no quick
+    /// way.
     #[inline(always)]
     fn lanes(&self, text: &[u8], first: usize) -> u8x32
         requires after { reaches self.now ≤ first }

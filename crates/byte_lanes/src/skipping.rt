@@ -59,8 +59,8 @@ fn skip_long_range<T: EndTest>(test: &T, text: &[u8], from: usize) -> usize
     seen
 }
 
-/// A position up to which there is no candidate after `from`, at most `to`: by one byte of each literal, or by all bytes
-/// that the test reads. LLVM makes a loop of each turn.
+/// A position up to which there is no candidate after `from`, at most `to`: by one byte of each literal, or by all
+/// bytes that the test reads. LLVM makes a loop of each turn.
 #[inline(always)]
 fn skip_blocks<T: EndTest>(
     test: &T,

@@ -8,9 +8,9 @@
 /// four times as many each further time, makes no difference.
 pub(crate) const WAIT: usize = 65536;
 
-/// Bytes. A candidate at most this near is found by all bytes that the test reads; only after this many ends is one byte
-/// of a literal searched for alone. Measured with a literal each 1,300 bytes: with 2,048 it takes 1.12 times as long as
-/// without the search for one byte, with this 1.01 to 1.05.
+/// Bytes. A candidate at most this near is found by all bytes that the test reads; only after this many ends is one
+/// byte of a literal searched for alone. Measured with a literal each 1,300 bytes: with 2,048 it takes 1.12 times as
+/// long as without the search for one byte, with this 1.01 to 1.05.
 pub(crate) const SHORT_RANGE: usize = 8192;
 
 // Blocks of a text.

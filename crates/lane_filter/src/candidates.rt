@@ -11,8 +11,8 @@ use byte_lanes::{AnyOf, EndTest, Nibbles, below_bit, from_bit, skip_unmarked, sp
 use nib_mask::ByteMasks;
 use std::marker::Model;
 
-/// Bytes. A longer text that has fewer than 64 ends to test together is tested one end after the other: its literals are
-/// compared far before their ends, which is rare.
+/// Bytes. A longer text that has fewer than 64 ends to test together is tested one end after the other: its literals
+/// are compared far before their ends, which is rare.
 const MOST_COPIED: usize = 128;
 
 /// The candidates among the ends tested together, up to `done`: bit k of `mask` is set where `first + k` is one.

@@ -37,8 +37,8 @@ pub(crate) fn deciding_part(search: &mut LineSearch<'_>, line: &[u8]) -> Part
     }
 }
 
-/// Whether an open line is decided by its bytes so far: it is longer than each pattern under -x, or a literal ends at its
-/// end.
+/// Whether an open line is decided by its bytes so far: it is longer than each pattern under -x, or a literal ends at
+/// its end.
 pub(crate) fn is_decided(matcher: Matcher<'_>, line: &[u8]) -> bool
     ensures { IsTrue result → IsDecided (picks matcher.entry) line.now }
 {

@@ -96,8 +96,9 @@ impl<'p> Picker<'p> {
         self
     }
 
-    /// The same picker, which from now on holds of an open line only what decides whether it is selected: about twice as
-    /// many bytes as the longest literal has. So it emits some bytes in place of a line's, to a sink that ignores them.
+    /// The same picker, which from now on holds of an open line only what decides whether it is selected: about twice
+    /// as many bytes as the longest literal has. So it emits some bytes in place of a line's, to a sink that ignores
+    /// them.
     pub fn without_bytes(mut self) -> Picker<'p>
         ensures { result ≡ record self.entry { has_bytes = false } }
     {
@@ -129,8 +130,8 @@ impl<'p> Picker<'p> {
     }
 
     /// Takes the next piece of the text, and emits to the sink each selected line that a newline ends in it: in order,
-    /// with its number and without its newline. A picker without numbers emits it with some number, and one without bytes
-    /// emits a line that came in several pieces with some bytes.
+    /// with its number and without its newline. A picker without numbers emits it with some number, and one without
+    /// bytes emits a line that came in several pieces with some bytes.
     ///
     /// The line to which the sink answers `Stop` or a fault is the last one emitted, and `feed` returns the same
     /// answer. `StreamTooLong` comes if the bytes fed would pass 2^64 - 1, before any line is emitted. `OutOfMemory`

@@ -18,6 +18,6 @@ pub(crate) const FEW_LITERALS: usize = 3;
 
 // Hits.
 
-/// Hits. After this many, with nothing passed over between them, the rest of a text is split line by line. Measured with
-/// 1,000 words, one in most lines: that is 16 times as fast. Not varied.
+/// Hits. Under -x, after this many with nothing passed over between them, the rest of a text is split line by line.
+/// Measured with 1,000 words, one in most lines: that is 16 times as fast. Not varied.
 pub(crate) const MOST_HITS_IN_A_ROW: usize = 16;

@@ -84,9 +84,9 @@ pub struct CutLine<'t> {
     pub newlines: u64,
 }
 
-/// The first line of a text, if there is a newline. By masks, one comparison of 64 bytes finds all newlines in them, and
-/// `newlines` is the mask of those that are still ahead, or 0. So a line of two bytes is cut in half the time. Longer
-/// lines are cut one by one, since it cannot be predicted which of them is the last one of a mask.
+/// The first line of a text, if there is a newline. By masks, one comparison of 64 bytes finds all newlines in them,
+/// and `newlines` is the mask of those that are still ahead, or 0. So a line of two bytes is cut in half the time.
+/// Longer lines are cut one by one, since it cannot be predicted which of them is the last one of a mask.
 #[inline(always)]
 pub fn split_next_line(text: &[u8], newlines: u64, by_masks: bool) -> Option<CutLine<'_>>
     requires { AreNewlines text.now newlines }

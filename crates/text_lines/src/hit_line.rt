@@ -38,8 +38,8 @@ impl<'t> HitLine<'t> {
     }
 }
 
-/// The lines of a text of ended lines that hold a literal, one after another. It splits no line between them. A contract
-/// sees the plan, the literals of the finder, and what stands after the last line found.
+/// The lines of a text of ended lines that hold a literal, one after another. It splits no line between them. A
+/// contract sees the plan, the literals of the finder, and what stands after the last line found.
 #[derive(Drop)]
 pub struct HitLines<'a> {
     compiled: &'a Compiled,
@@ -137,7 +137,8 @@ impl<'a> HitLines<'a> {
         line_round(&mut self.column, text, end)
     }
 
-    /// The first line of the rest, if a literal ends in it at the probable position. `None` says nothing about the rest.
+    /// The first line of the rest, if a literal ends in it at the probable position. `None` says nothing about the
+    /// rest.
     #[inline(always)]
     fn likely(&mut self) -> Option<HitLine<'a>>
         ensures same { self.new ≡ self.old }
@@ -174,7 +175,8 @@ impl<'a> HitLines<'a> {
         Some(HitLine::first_of(text, line, after))
     }
 
-    /// Whether some literal ends after the first `at` bytes of the rest: the literal found last in this way, or another.
+    /// Whether some literal ends after the first `at` bytes of the rest: the literal found last in this way, or
+    /// another.
     #[inline(always)]
     fn has_end(&mut self, at: usize) -> bool
         requires some { 0 < at }

@@ -1,8 +1,8 @@
 //! The lines of a text: where newlines stand, how many there are, how a text is cut into lines, and the lines in which
 //! literals end.
 //!
-//! Theorems: `count_newlines` returns the number of newlines. `HitLines` returns each line that holds a literal of a plan,
-//! in order, with the lines before it that hold none.
+//! Theorems: `count_newlines` returns the number of newlines. `HitLines` returns each line that holds a literal of a
+//! plan, in order, with the lines before it that hold none.
 #![tactic(auto)]
 
 mod column;

@@ -1,5 +1,5 @@
-//! The thresholds by which a text is cut into lines, and by which the end of a literal in its line is guessed. They change
-//! the time of a search, never its result.
+//! The thresholds by which a text is cut into lines, and by which the end of a literal in its line is guessed. They
+//! change the time of a search, never its result.
 
 // Bytes of a text.
 
@@ -17,6 +17,6 @@ pub(crate) const MOSTLY_EMPTY: usize = SAMPLE / 4 * 3;
 /// Hits. A column is tried once this many more hits in a row had it. Not varied.
 pub(crate) const LEAST_TRUST: u8 = 2;
 
-/// Hits. The bound of trust: a column survives two lines in a row that are made otherwise, and is given up at the third.
-/// Not varied.
+/// Hits. The bound of trust: a column survives two lines in a row that are made otherwise, and is given up at the
+/// third. Not varied.
 pub(crate) const MOST_TRUST: u8 = 4;
