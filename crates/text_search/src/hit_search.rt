@@ -13,8 +13,8 @@ pub trait HitSearch {
     ghost serves: { Self → Literals → Type 0 };
 
     /// Adds the hits that end in the text after `from`, which counts as `at`, up to the first end by which `out` gained
-    /// at least `most` hits (0 counts as 1). Returns this end, or the text's length. Memory is refused only after a hit was found;
-    /// `out` is then unchanged.
+    /// at least `most` hits (0 counts as 1). Returns this end, or the text's length. Memory is refused only after a hit
+    /// was found; `out` is then unchanged.
     fn add_hits(
         &mut self,
         compiled: &Compiled,

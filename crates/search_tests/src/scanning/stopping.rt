@@ -55,10 +55,7 @@ fn stops_at_an_end_where_no_hit_is_wanted(rt: HostRuntime) {
     let mut text = Vec::new(alloc);
     assert!(rt; text.resize(70_000, b'.').is_ok());
     text[69_000] = b'a';
-    assert_eq!(rt;
-        stops_in(alloc, &[b"a"], &text, 0),
-        Some([(69_001, 1); 3])
-    );
+    assert_eq!(rt; stops_in(alloc, &[b"a"], &text, 0), Some([(69_001, 1); 3]));
 }
 
 #[test]
