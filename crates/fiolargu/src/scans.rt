@@ -73,7 +73,7 @@ pub extern "C" fn fiolargu_scan(
     ensures inside { result ≡ OK → place.old ≤ length text.now }
     ensures same { (result ≡ OK → ⊥) → (place.new ≡ place.old) × (count.new ≡ 0) }
     ensures starved { result ≡ OUT_OF_MEMORY → place.old ≤ length text.now }
-    ensures quiet { IfSome (plan_of plan.old.held) (λ p. NoEndAfter p.literals text.now place.old → result ≡ OUT_OF_MEMORY → ⊥) }
+    ensures quiet { result ≡ OUT_OF_MEMORY → IfSome (plan_of plan.old.held) (λ p. NoEndAfter p.literals text.now place.old → ⊥) }
     ensures refused { (result ≡ OK) ⊎ ((result ≡ NULL_HANDLE) ⊎ ((result ≡ SMALL_BUFFER) ⊎ ((result ≡ OUT_OF_RANGE) ⊎ (result ≡ OUT_OF_MEMORY)))) }
 {
     *count = 0;
@@ -106,7 +106,7 @@ fn scan_held(
     ensures inside { result ≡ OK → place.old ≤ length text.now }
     ensures same { (result ≡ OK → ⊥) → (place.new ≡ place.old) × (count.new ≡ count.old) }
     ensures starved { result ≡ OUT_OF_MEMORY → place.old ≤ length text.now }
-    ensures quiet { NoEndAfter held.old.plan.literals text.now place.old → result ≡ OUT_OF_MEMORY → ⊥ }
+    ensures quiet { result ≡ OUT_OF_MEMORY → NoEndAfter held.old.plan.literals text.now place.old → ⊥ }
     ensures refused { (result ≡ OK) ⊎ ((result ≡ SMALL_BUFFER) ⊎ ((result ≡ OUT_OF_RANGE) ⊎ (result ≡ OUT_OF_MEMORY))) }
 {
     let most = most_of(held.plan.plan(), buffer);

@@ -92,7 +92,7 @@ pub extern "C" fn fiolargu_stream_feed(
     ensures null { result ≡ NULL_HANDLE ↔ stream_of stream.old.held ≡ None }
     ensures room { IfSome (stream_of stream.old.held) (λ s. result ≡ SMALL_BUFFER ↔ (length buffer.old ≤ length s.plan.literals.texts)) }
     ensures too_long { IfSome (stream_of stream.old.held) (λ s. result ≡ STREAM_TOO_LONG ↔ ((length s.plan.literals.texts < length buffer.old) × (2 ^ 64 ≤ s.place + length piece.now))) }
-    ensures quiet { IfSome (stream_of stream.old.held) (λ s. NoEndAfter s.plan.literals (s.tail ++ piece.now) (length s.tail) → result ≡ OUT_OF_MEMORY → ⊥) }
+    ensures quiet { result ≡ OUT_OF_MEMORY → IfSome (stream_of stream.old.held) (λ s. NoEndAfter s.plan.literals (s.tail ++ piece.now) (length s.tail) → ⊥) }
     ensures refused { (result ≡ OK) ⊎ ((result ≡ NULL_HANDLE) ⊎ ((result ≡ SMALL_BUFFER) ⊎ ((result ≡ STREAM_TOO_LONG) ⊎ (result ≡ OUT_OF_MEMORY)))) }
 {
     *count = 0;
@@ -125,7 +125,7 @@ fn feed_held(
     ensures not_null { result ≡ NULL_HANDLE → ⊥ }
     ensures room { result ≡ SMALL_BUFFER ↔ (length buffer.old ≤ length held.old.stream.plan.literals.texts) }
     ensures too_long { result ≡ STREAM_TOO_LONG ↔ ((length held.old.stream.plan.literals.texts < length buffer.old) × (2 ^ 64 ≤ held.old.stream.place + length piece.now)) }
-    ensures quiet { NoEndAfter held.old.stream.plan.literals (held.old.stream.tail ++ piece.now) (length held.old.stream.tail) → result ≡ OUT_OF_MEMORY → ⊥ }
+    ensures quiet { result ≡ OUT_OF_MEMORY → NoEndAfter held.old.stream.plan.literals (held.old.stream.tail ++ piece.now) (length held.old.stream.tail) → ⊥ }
     ensures refused { (result ≡ OK) ⊎ ((result ≡ SMALL_BUFFER) ⊎ ((result ≡ STREAM_TOO_LONG) ⊎ (result ≡ OUT_OF_MEMORY))) }
 {
     let most = most_of(held.stream.plan(), buffer);
