@@ -49,13 +49,16 @@ fn stops_at_the_first_end_with_enough_hits(rt: HostRuntime) {
     assert_eq!(rt; stops_in(alloc, &[b"a"], b"aaaa", 5), Some([(4, 4); 3]));
 }
 
+/// Where each of them stops in a long text with one hit, if none is wanted.
+fn stops_for_no_hit(alloc: Global) -> Option<[Stop; 3]> {
+    let mut text = Vec::from_elem(alloc, b'.', 70_000).ok()?;
+    text[69_000] = b'a';
+    stops_in(alloc, &[b"a"], &text, 0)
+}
+
 #[test]
 fn stops_at_an_end_where_no_hit_is_wanted(rt: HostRuntime) {
-    let alloc = rt.alloc();
-    let mut text = Vec::new(alloc);
-    assert!(rt; text.resize(70_000, b'.').is_ok());
-    text[69_000] = b'a';
-    assert_eq!(rt; stops_in(alloc, &[b"a"], &text, 0), Some([(69_001, 1); 3]));
+    assert_eq!(rt; stops_for_no_hit(rt.alloc()), Some([(69_001, 1); 3]));
 }
 
 #[test]
