@@ -42,7 +42,7 @@ SHAPES = {
 TUNED = {
     "byte_lanes": 5,
     "grep_run": 1,
-    "line_pick": 4,
+    "line_pick": 3,
     "scan_core": 1,
     "shift_search": 6,
     "text_lines": 5,

@@ -10,7 +10,7 @@ use crate::factors::Factors;
 use crate::probing::{BLOCK, next_pending};
 use std::alloc::AllocError;
 use std::marker::Model;
-use text_ends::{Ends, Hit, Tally, add_hits_at};
+use text_ends::{EndWalk, Hit, Tally, add_hits_at};
 
 /// Positions from a probe to the last end that its hash bits mark.
 const REACH: usize = 7;
@@ -200,7 +200,7 @@ impl<'a> FactorEnds<'a> {
     }
 }
 
-impl<'a> Ends for FactorEnds<'a> {
+impl<'a> EndWalk for FactorEnds<'a> {
     ghost walk = { λ w. w };
 
     ghost identifies = { λ w end first. IsFirstEnding w.literals w.text 0 end first };

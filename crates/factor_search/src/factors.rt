@@ -143,10 +143,10 @@ impl Factors {
 }
 
 /// The masks for the factors at the offsets. Gives each literal a bucket.
-fn masks_of(list: &LitList, offsets: &Vec<u8>, buckets: &mut Vec<u8>) -> ByteMasks
-    requires offsets { vec_len offsets.now ≡ length list.now.texts }
+fn masks_of(list: &LitList, offsets: &[u8], buckets: &mut Vec<u8>) -> ByteMasks
+    requires offsets { length offsets.now ≡ length list.now.texts }
     requires buckets { vec_len buckets.old ≡ length list.now.texts }
-    ensures masks { CoversPrefixes list.now (length list.now.texts) offsets.now.items (widened result) }
+    ensures masks { CoversPrefixes list.now (length list.now.texts) offsets.now (widened result) }
     ensures buckets { vec_len buckets.new ≡ vec_len buckets.old }
 {
     group(list, offsets, buckets);
@@ -156,12 +156,12 @@ fn masks_of(list: &LitList, offsets: &Vec<u8>, buckets: &mut Vec<u8>) -> ByteMas
 
 /// The hash bits of a position, by all widths from the least on.
 #[inline(always)]
-fn hash_bits_of_widths(hash_bits: &Vec<u8>, fold: Fold, least: usize, text: &[u8], at: usize) -> u8
-    requires room { vec_len hash_bits.now ≡ 2 ^ HASH_BITS }
+fn hash_bits_of_widths(hash_bits: &[u8], fold: Fold, least: usize, text: &[u8], at: usize) -> u8
+    requires room { length hash_bits.now ≡ 2 ^ HASH_BITS }
     requires some { 0 < least }
     requires inside { at ≤ length text.now }
     ensures { (width back : ℕ) → least ≤ width → width ≤ WIDTH → width ≤ at
-        → HasBit hash_bits.now.items (hash_of HASH_BITS (suffix_key fold text.now at width)) back → bit_at result back ≡ 1 }
+        → HasBit hash_bits.now (hash_of HASH_BITS (suffix_key fold text.now at width)) back → bit_at result back ≡ 1 }
 {
     let word = word_before(text, at);
     let case_bits = case_bits(fold);
@@ -176,11 +176,11 @@ fn hash_bits_of_widths(hash_bits: &Vec<u8>, fold: Fold, least: usize, text: &[u8
 
 /// The hash bits of the last `width` of eight bytes.
 #[inline(always)]
-fn hash_bits_of(hash_bits: &Vec<u8>, word: u64, width: usize, case_bits: u64) -> u8
-    requires room { vec_len hash_bits.now ≡ 2 ^ HASH_BITS }
+fn hash_bits_of(hash_bits: &[u8], word: u64, width: usize, case_bits: u64) -> u8
+    requires room { length hash_bits.now ≡ 2 ^ HASH_BITS }
     requires some { 0 < width }
     requires narrow { width ≤ 8 }
-    ensures { result ≡ slice_index hash_bits.now.items (hash_of HASH_BITS (masked_key word width case_bits)) }
+    ensures { result ≡ slice_index hash_bits.now (hash_of HASH_BITS (masked_key word width case_bits)) }
 {
     hash_bits[hash_of(HASH_BITS, masked_key(word, width, case_bits))]
 }

@@ -3,6 +3,7 @@ ghost use Rattle.std.specs.Prelude.{◌≡◌, ◌<◌, length, vec_len};
 ghost use Rattle.factor_search.specs.declared.grouping.TheConstants.{BUCKETS};
 
 use lit_base::LitList;
+use nib_mask::prefix_at;
 
 /// Buckets, each with a bit in a byte.
 const BUCKETS: usize = 8;
@@ -56,16 +57,14 @@ impl Halves {
 /// Gives each literal of a list the bucket that then passes the fewest additional triples of bytes. Measured on texts
 /// of four kinds: lists of 10 to 100 words of a text have 0.5 to 0.9 times the candidates of runs in an order by last
 /// bytes.
-pub(crate) fn group(list: &LitList, offsets: &Vec<u8>, buckets: &mut Vec<u8>)
-    requires offsets { vec_len offsets.now ≡ length list.now.texts }
+pub(crate) fn group(list: &LitList, offsets: &[u8], buckets: &mut Vec<u8>)
+    requires offsets { length offsets.now ≡ length list.now.texts }
     requires buckets { vec_len buckets.old ≡ length list.now.texts }
     ensures { vec_len buckets.new ≡ vec_len buckets.old }
 {
     let mut groups = [Halves::none(); BUCKETS];
     for place in 0..list.len() {
-        let literal = list.get(place);
-        let len = literal.len().saturating_sub(usize::from(offsets[place]));
-        let (prefix, _) = literal.split_at(len);
+        let prefix = prefix_at(list, place, usize::from(offsets[place]));
         let bucket = best_bucket(groups, prefix);
         groups[bucket] = groups[bucket].with(prefix);
         buckets[place] = bucket as u8;

@@ -4,7 +4,7 @@ use lit_base::{Fold, LitList, RawList};
 use std::alloc::Global;
 use std::sync::Arc;
 use text_automaton::{Automaton, AutomatonEnds};
-use text_ends::Ends;
+use text_ends::EndWalk;
 
 /// Literals, some of them the end of others, and some the beginning.
 const NESTED: [&[u8]; 8] = [

@@ -6,7 +6,7 @@ use lit_base::{Fold, LitList, RawList};
 use shift_search::{ShiftOr, ShiftOrEnds, cut_runs};
 use std::alloc::Global;
 use std::sync::Arc;
-use text_ends::{EndRate, Ends};
+use text_ends::{EndRate, EndWalk};
 
 /// Literals of each length that is marked in its own way.
 const WORDS: [&[u8]; 5] = [b"q", b"xy", b"fox", b"over", b"lazy dogs"];

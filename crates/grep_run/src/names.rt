@@ -4,7 +4,7 @@ ghost use Rattle.byte_io.specs.Sources.{ask_of};
 ghost use Rattle.grep_run.specs.Sources.{name_of};
 
 /// What standard input is called in messages and prefixes.
-pub const STANDARD_NAME: &str = "(standard input)";
+const STANDARD_NAME: &str = "(standard input)";
 
 /// What messages and prefixes call the operand.
 pub fn shown_name(operand: &str) -> &str

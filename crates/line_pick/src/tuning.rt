@@ -9,13 +9,6 @@ pub(crate) const HIT_BYTES: usize = 256;
 /// Bytes. The same where lines are short: measured, a byte of them takes four times as long to split.
 pub(crate) const SHORT_LINE_HIT_BYTES: usize = 64;
 
-// Literals.
-
-/// Literals. A list of at most this length is searched for by two or three bytes of each, which is faster in any text
-/// than splitting its lines. A search for more may take several times as long, if they are words of the text. Measured
-/// with 30 words in English text: 4.5 ns a byte, against 0.6 to split and compare each line.
-pub(crate) const FEW_LITERALS: usize = 3;
-
 // Hits.
 
 /// Hits. Under -x, after this many with nothing passed over between them, the rest of a text is split line by line.

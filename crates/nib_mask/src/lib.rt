@@ -14,3 +14,4 @@ mod prefixes;
 pub use byte_masks::ByteMasks;
 pub use candidates::candidate_law;
 pub use masks::{Masks, filter_number};
+pub use prefixes::prefix_at;

@@ -62,7 +62,7 @@ fn table(
 }
 
 /// The prefix of a literal: all but its last `offset` bytes.
-fn prefix_at(list: &LitList, place: usize, offset: usize) -> &[u8]
+pub fn prefix_at(list: &LitList, place: usize, offset: usize) -> &[u8]
     requires { place < length list.now.texts }
     ensures { result.now ≡ prefix_at list.now place offset }
 {

@@ -9,7 +9,7 @@ use lane_filter::{Candidates, Prefilter};
 use list_index::ListIndex;
 use std::alloc::AllocError;
 use std::marker::Model;
-use text_ends::{Ends, Hit, Tally, add_hits_at};
+use text_ends::{EndWalk, Hit, Tally, add_hits_at};
 
 /// The ends in a text, found by a prefilter alone.
 #[derive(Drop)]
@@ -89,7 +89,7 @@ impl<'a> PrefilterEnds<'a> {
     }
 }
 
-impl<'a> Ends for PrefilterEnds<'a> {
+impl<'a> EndWalk for PrefilterEnds<'a> {
     ghost walk = { λ w. w };
 
     ghost identifies = { λ w end first. IsFirstEnding w.literals w.text 0 end first };

@@ -1,12 +1,13 @@
 //! A session: what one client has published and opened, and how it is answered.
-ghost use Rattle.std.specs.Prelude.{◌≡◌, ◌∷◌, ◌<◌, [], IfErr, IfNone, IfOk, IfSome, None, Some, IsOkUnless, OnErr, OnOk, Contains, length, map};
+ghost use Rattle.std.specs.Prelude.{◌≡◌, ◌∷◌, ◌++◌, ◌<◌, [], IfErr, IfNone, IfOk, IfSome, None, Some, IsOk, IsOkUnless, OnErr, OnOk, Contains, length, map};
 ghost use Rattle.std.specs.List.{slice_get};
+ghost use Rattle.lit_base.specs.NextEnds.{NoEndAfter};
 ghost use Rattle.plan_store.specs.Tickets.{IsOf};
 ghost use Rattle.scan_wire.specs.Messages.{Close, Feed, Open, Publish, ShowPlan, reply_parts, request_parts, texts_of};
 ghost use Rattle.scan_core.specs.Prefixes.{FeedsPrefix, MayFeed};
 ghost use Rattle.scan_core.specs.Refusals.{publish_refusal};
 ghost use Rattle.scan_core.specs.Sessions.{GainsEvent, IsEvent, by_tails, fresh, parts_of};
-ghost use Rattle.scan_core.specs.Steps.{refusal_of};
+ghost use Rattle.scan_core.specs.Steps.{refusal_of, stream_at};
 ghost use Rattle.scan_core.specs.Together.{tickets_of};
 ghost use Rattle.scan_core.specs.declared.fault.Fault.TheVariants.{OutOfMemory};
 
@@ -259,7 +260,7 @@ impl<'s> Session<'s> {
 
     /// Feeds a prefix of a piece to its stream: up to the first end by which `out` gained at least `most` hits, or the
     /// whole piece. So the caller of a Feed need not hold all of its hits. Returns how many bytes were fed. The only fault is
-    /// `OutOfMemory`: session and `out` are then as they were.
+    /// `OutOfMemory`, and only where a hit was found: session and `out` are then as they were.
     ///
     /// A finder tunes itself to long streams: for one plan at a time, whose streams share it. Without memory for a
     /// finder the stream is searched without.
@@ -276,6 +277,8 @@ impl<'s> Session<'s> {
         ensures same { OnErr result (self.new ≡ self.old) }
         ensures same_hits { OnErr result (out.new.items ≡ out.old.items) }
         ensures fault { IsOkUnless result OutOfMemory }
+        ensures quiet { IfSome (stream_at stream (parts_of self.old)) (λ state.
+            NoEndAfter state.scan.plan.literals (state.scan.tail ++ piece.now) (length state.scan.tail) → IsOk result) }
     {
         let Some(place) = find_stream(&self.streams, stream) else {
             unreachable!()

@@ -1,5 +1,6 @@
 //! The finder of a session, which tunes itself to the bytes of its streams.
-ghost use Rattle.std.specs.Prelude.{◌≡◌, ◌+◌, ◌^◌, ◌<◌, IfOk, IfSome, IsOkUnless, IsTrue, None, OnErr, length, take};
+ghost use Rattle.std.specs.Prelude.{◌≡◌, ◌+◌, ◌++◌, ◌^◌, ◌<◌, IfOk, IfSome, IsOk, IsOkUnless, IsTrue, None, OnErr, length, take};
+ghost use Rattle.lit_base.specs.NextEnds.{NoEndAfter};
 ghost use Rattle.plan_store.specs.Tickets.{IsOf};
 ghost use Rattle.flow_scan.specs.Scanners.{fed};
 ghost use Rattle.flow_scan.specs.Tails.{StopsIn};
@@ -154,6 +155,7 @@ impl SessionFinder {
         ensures same_scan { OnErr result (scanner.new ≡ scanner.old) }
         ensures same_hits { OnErr result (out.new.items ≡ out.old.items) }
         ensures fault { IsOkUnless result OutOfMemory }
+        ensures quiet { NoEndAfter scanner.old.plan.literals (scanner.old.tail ++ piece.now) (length scanner.old.tail) → IsOk result }
     {
         match &mut self.own {
             Some(own) if own.is_by(store, ticket) => {
@@ -181,6 +183,7 @@ fn feed_by<S: HitSearch>(
     ensures same_scan { OnErr result (scanner.new ≡ scanner.old) }
     ensures same_hits { OnErr result (out.new.items ≡ out.old.items) }
     ensures fault { IsOkUnless result OutOfMemory }
+    ensures quiet { NoEndAfter scanner.old.plan.literals (scanner.old.tail ++ piece.now) (length scanner.old.tail) → IsOk result }
 {
     let Ok(count) = scanner.feed_until(search, piece, most, out) else {
         return Err(Fault::OutOfMemory);

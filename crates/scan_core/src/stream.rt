@@ -1,5 +1,6 @@
 //! An open stream.
-ghost use Rattle.std.specs.Prelude.{◌≡◌, ◌+◌, ◌^◌, ◌≤◌, ◌<◌, IfOk, IfSome, IsOkUnless, MatchOption, OnErr, length};
+ghost use Rattle.std.specs.Prelude.{◌≡◌, ◌+◌, ◌++◌, ◌^◌, ◌≤◌, ◌<◌, IfOk, IfSome, IsOk, IsOkUnless, MatchOption, OnErr, length};
+ghost use Rattle.lit_base.specs.NextEnds.{NoEndAfter};
 ghost use Rattle.plan_store.specs.Tickets.{IsOf};
 ghost use Rattle.flow_scan.specs.Scanners.{fed, started};
 ghost use Rattle.flow_scan.specs.Tails.{GainsHits};
@@ -100,8 +101,8 @@ impl<'s> Stream<'s> {
     }
 
     /// Feeds a prefix of a piece, and returns how many bytes that has. The piece is fed up to the first end by which
-    /// `out` gained at least `most` hits, or whole, with the finder if that is by the stream's plan. If memory is
-    /// refused, the stream and `out` are as they were.
+    /// `out` gained at least `most` hits, or whole, with the finder if that is by the stream's plan. Memory is refused
+    /// only where a hit was found; the stream and `out` are then as they were.
     pub(crate) fn feed_prefix(
         &mut self,
         store: &PlanStore,
@@ -119,6 +120,7 @@ impl<'s> Stream<'s> {
         ensures same { OnErr result (self.new ≡ self.old) }
         ensures same_hits { OnErr result (out.new.items ≡ out.old.items) }
         ensures fault { IsOkUnless result OutOfMemory }
+        ensures quiet { NoEndAfter self.old.1.scan.plan.literals (self.old.1.scan.tail ++ piece.now) (length self.old.1.scan.tail) → IsOk result }
     {
         finder.feed(store, &self.ticket, &mut self.scanner, piece, most, out)
     }

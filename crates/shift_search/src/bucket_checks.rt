@@ -27,9 +27,9 @@ pub(crate) struct BucketChecks {
 
 impl BucketChecks {
     /// The check for a list with these buckets.
-    pub fn new(alloc: Global, list: &LitList, buckets: &Vec<u8>) -> Result<BucketChecks, AllocError>
-        requires { vec_len buckets.now ≡ length list.now.texts }
-        ensures { IfOk result (AreBucketChecksOf list.now buckets.now.items) }
+    pub fn new(alloc: Global, list: &LitList, buckets: &[u8]) -> Result<BucketChecks, AllocError>
+        requires { length buckets.now ≡ length list.now.texts }
+        ensures { IfOk result (AreBucketChecksOf list.now buckets.now) }
     {
         let mut widths = Vec::from_elem(alloc, 8, BUCKETS)?;
         narrow_all(list, buckets, &mut widths);
@@ -44,10 +44,10 @@ impl BucketChecks {
 }
 
 /// Reduces each bucket's key length to the length of its shortest literal.
-fn narrow_all(list: &LitList, buckets: &Vec<u8>, widths: &mut Vec<usize>)
-    requires buckets { vec_len buckets.now ≡ length list.now.texts }
-    requires widths { AreWidthsOf list.now buckets.now.items widths.old.items 0 }
-    ensures { AreWidthsOf list.now buckets.now.items widths.new.items (length list.now.texts) }
+fn narrow_all(list: &LitList, buckets: &[u8], widths: &mut Vec<usize>)
+    requires buckets { length buckets.now ≡ length list.now.texts }
+    requires widths { AreWidthsOf list.now buckets.now widths.old.items 0 }
+    ensures { AreWidthsOf list.now buckets.now widths.new.items (length list.now.texts) }
 {
     for place in 0..list.len() {
         narrow(widths, bucket_of(buckets, place), list.get(place).len());
@@ -67,11 +67,11 @@ fn narrow(widths: &mut Vec<usize>, bucket: usize, len: usize)
 }
 
 /// Sets the bit of each literal.
-fn set_checks(list: &LitList, buckets: &Vec<u8>, widths: &Vec<usize>, table: &mut Vec<u8>)
-    requires buckets { vec_len buckets.now ≡ length list.now.texts }
-    requires widths { AreWidthsOf list.now buckets.now.items widths.now.items (length list.now.texts) }
-    requires none { AreKeyBits CHECK_BITS (bucket_key list.now buckets.now.items widths.now.items) (bucket_at buckets.now.items) 0 table.old.items }
-    ensures { AreKeyBits CHECK_BITS (bucket_key list.now buckets.now.items widths.now.items) (bucket_at buckets.now.items) (length list.now.texts) table.new.items }
+fn set_checks(list: &LitList, buckets: &[u8], widths: &[usize], table: &mut Vec<u8>)
+    requires buckets { length buckets.now ≡ length list.now.texts }
+    requires widths { AreWidthsOf list.now buckets.now widths.now (length list.now.texts) }
+    requires none { AreKeyBits CHECK_BITS (bucket_key list.now buckets.now widths.now) (bucket_at buckets.now) 0 table.old.items }
+    ensures { AreKeyBits CHECK_BITS (bucket_key list.now buckets.now widths.now) (bucket_at buckets.now) (length list.now.texts) table.new.items }
 {
     for place in 0..list.len() {
         let bucket = bucket_of(buckets, place);

@@ -20,19 +20,19 @@ pub(crate) const BUCKETS: usize = 8;
 const ALL: u64 = u64::MAX;
 
 /// The bucket of the literal at a place.
-pub(crate) fn bucket_of(buckets: &Vec<u8>, place: usize) -> usize
-    requires { place < vec_len buckets.now }
-    ensures { result ≡ bucket_at buckets.now.items place }
+pub(crate) fn bucket_of(buckets: &[u8], place: usize) -> usize
+    requires { place < length buckets.now }
+    ensures { result ≡ bucket_at buckets.now place }
 {
     usize::from(buckets[place]) % BUCKETS
 }
 
 /// Makes the entries that pass the literals of a list and rule out all else, in existing room.
-pub(crate) fn fill_all(list: &LitList, buckets: &Vec<u8>, entries: &mut Vec<u64>)
-    requires buckets { vec_len buckets.now ≡ length list.now.texts }
+pub(crate) fn fill_all(list: &LitList, buckets: &[u8], entries: &mut Vec<u64>)
+    requires buckets { length buckets.now ≡ length list.now.texts }
     requires none { vec_len entries.old ≡ 0 }
     requires room { ENTRIES ≤ vec_capacity entries.old }
-    ensures { AreEntriesOf list.now buckets.now.items entries.new.items }
+    ensures { AreEntriesOf list.now buckets.now entries.new.items }
 {
     fill_with(entries, without_short(ALL, list, buckets));
     let_all_through(list, buckets, entries);
@@ -40,9 +40,9 @@ pub(crate) fn fill_all(list: &LitList, buckets: &Vec<u8>, entries: &mut Vec<u64>
 }
 
 /// Clears the bits of an entry for which its bytes say nothing: of ends too far ahead of them for some literal's length.
-fn without_short(entry: u64, list: &LitList, buckets: &Vec<u8>) -> u64
-    requires { vec_len buckets.now ≡ length list.now.texts }
-    ensures { IsCleared entry result (IsPass list.now buckets.now.items IsShort (length list.now.texts)) }
+fn without_short(entry: u64, list: &LitList, buckets: &[u8]) -> u64
+    requires { length buckets.now ≡ length list.now.texts }
+    ensures { IsCleared entry result (IsPass list.now buckets.now IsShort (length list.now.texts)) }
 {
     let mut found = entry;
     for place in 0..list.len() {
@@ -83,12 +83,12 @@ fn fill_with(entries: &mut Vec<u64>, entry: u64)
 }
 
 /// Clears the bits that would rule out a literal of the list.
-fn let_all_through(list: &LitList, buckets: &Vec<u8>, entries: &mut Vec<u64>)
-    requires buckets { vec_len buckets.now ≡ length list.now.texts }
+fn let_all_through(list: &LitList, buckets: &[u8], entries: &mut Vec<u64>)
+    requires buckets { length buckets.now ≡ length list.now.texts }
     requires room { vec_len entries.old ≡ ENTRIES }
     ensures len { vec_len entries.new ≡ ENTRIES }
     ensures cleared { AreCleared entries.old.items entries.new.items
-        (λ number. IsPass list.now buckets.now.items (FitsPair list.now.folding number) (length list.now.texts)) }
+        (λ number. IsPass list.now buckets.now (FitsPair list.now.folding number) (length list.now.texts)) }
 {
     for place in 0..list.len() {
         let bucket = bucket_of(buckets, place);

@@ -28,8 +28,8 @@ pub fn cut_runs(list: &LitList, buckets: &mut Vec<u8>)
 }
 
 /// The place at which to cut the runs next, or the list's length if no cut gains.
-fn best_cut(list: &LitList, buckets: &Vec<u8>) -> usize
-    requires { vec_len buckets.now ≡ length list.now.texts }
+fn best_cut(list: &LitList, buckets: &[u8]) -> usize
+    requires { length buckets.now ≡ length list.now.texts }
     ensures { result ≤ length list.now.texts }
 {
     let mut best = (list.len(), 0usize);
@@ -51,8 +51,8 @@ fn best_cut(list: &LitList, buckets: &Vec<u8>) -> usize
 }
 
 /// The end of the run that contains a place.
-fn end_of_run(buckets: &Vec<u8>, place: usize) -> usize
-    ensures { result ≤ vec_len buckets.now }
+fn end_of_run(buckets: &[u8], place: usize) -> usize
+    ensures { result ≤ length buckets.now }
 {
     for other in place..buckets.len() {
         if buckets[other] != buckets[place] {

@@ -6,7 +6,7 @@ use crate::probes::Probes;
 use crate::shift_or::ShiftOr;
 use std::alloc::AllocError;
 use std::marker::Model;
-use text_ends::{Ends, Hit, Tally, add_hits_at};
+use text_ends::{EndWalk, Hit, Tally, add_hits_at};
 
 /// The ends in a text, found by shift-or.
 #[derive(Drop)]
@@ -52,7 +52,7 @@ impl<'a> ShiftOrEnds<'a> {
     }
 }
 
-impl<'a> Ends for ShiftOrEnds<'a> {
+impl<'a> EndWalk for ShiftOrEnds<'a> {
     ghost walk = { λ w. w };
 
     ghost identifies = { λ w end first. IsFirstEnding w.literals w.text 0 end first };

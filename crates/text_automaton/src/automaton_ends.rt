@@ -9,7 +9,7 @@ use crate::reading::{ROOM, Reading};
 use list_index::ListIndex;
 use std::alloc::AllocError;
 use std::marker::Model;
-use text_ends::{Ends, Hit, hit_of};
+use text_ends::{EndWalk, Hit, hit_of};
 
 /// The ends in a text, found by the automaton.
 #[derive(Drop)]
@@ -63,7 +63,7 @@ impl<'a> AutomatonEnds<'a> {
     }
 }
 
-impl<'a> Ends for AutomatonEnds<'a> {
+impl<'a> EndWalk for AutomatonEnds<'a> {
     ghost walk = { λ w. w.walk };
 
     ghost identifies = { λ w end state. IsStateAt w.automaton w.walk.text end state × (w.automaton.is_made ≡ true)

@@ -10,7 +10,7 @@ use crate::hit::Hit;
 use std::alloc::AllocError;
 
 /// A walk over the positions of one text at which some literal ends.
-pub trait Ends {
+pub trait EndWalk {
     ghost walk: { Self → Walk };
 
     /// The number that comes with an end identifies the literals there: it is the first of them, or a state of an
@@ -44,7 +44,7 @@ pub trait Ends {
 /// Adds the hits that end in the text after `from`, up to the first end by which `out` gained at least `most` hits (0
 /// counts as 1). The walk starts at `from`, which counts as `at`. Returns this end, or the text's length. Memory is
 /// refused only after a hit was found; `out` is then unchanged.
-pub fn add_hits_of<E: Ends>(
+pub fn add_hits_of<E: EndWalk>(
     ends: &mut E,
     text: &[u8],
     from: usize,

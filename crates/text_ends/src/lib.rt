@@ -8,7 +8,7 @@ mod hits;
 mod rate;
 mod tally;
 
-pub use ends::{Ends, add_hits_of};
+pub use ends::{EndWalk, add_hits_of};
 pub use hit::Hit;
 pub use hits::{add_hits_at, hit_of};
 pub use rate::EndRate;

@@ -1,6 +1,5 @@
 //! A search through texts that tunes itself to them.
-ghost use Rattle.std.specs.Prelude.{◌≡◌, ◌+◌, ◌-◌, ◌^◌, ◌<◌, ◌≤◌, IfOk, IfSome, length};
-ghost use Rattle.std.specs.Option.{IfNone};
+ghost use Rattle.std.specs.Prelude.{◌≡◌, ◌+◌, ◌-◌, ◌^◌, ◌<◌, ◌≤◌, IfOk, IfSome, IsTrue, None, Ok, is_some, length};
 ghost use Rattle.text_search.specs.Searched.{AddsHits, FindsNext};
 
 use crate::hit_search::{HitSearch, PrefilterSearch};
@@ -70,8 +69,8 @@ impl EndFinder {
         compiled: &Compiled,
     ) -> Result<Option<EndFinder>, AllocError>
         ensures plan { IfOk result (λ finder. IfSome finder (λ literals. literals ≡ compiled.now.literals)) }
-        ensures few { IfOk result (λ finder. IfNone finder (length compiled.now.literals.texts ≤ 3)) }
-        ensures many { IfOk result (λ finder. IfSome finder (λ _. 3 < length compiled.now.literals.texts)) }
+        ensures few { length compiled.now.literals.texts ≤ 3 → result ≡ Ok None }
+        ensures many { 3 < length compiled.now.literals.texts → IfOk result (λ finder. IsTrue (is_some finder)) }
     {
         if !has_use(compiled.list().len()) {
             return Ok(None);

@@ -6,7 +6,7 @@ ghost use Rattle.text_search.specs.Searched.{FindsNext};
 use lit_plan::Compiled;
 use prefilter_search::PrefilterEnds;
 use std::marker::Model;
-use text_ends::Ends;
+use text_ends::EndWalk;
 
 /// A search of one text for the literals of a plan, for one end after another. A search from a later position uses the
 /// filter results that it already has.
@@ -83,7 +83,7 @@ pub fn first_end_after(compiled: &Compiled, text: &[u8], from: usize) -> Option<
 
 /// The next end of a walk.
 #[inline(always)]
-pub(crate) fn next_of<E: Ends>(ends: &mut E) -> Option<usize>
+pub(crate) fn next_of<E: EndWalk>(ends: &mut E) -> Option<usize>
     ensures next { let before = E.walk ends.old in FindsNext before.literals before.text before.from result }
     ensures moved { HasGoneOn (E.walk ends.old) (E.walk ends.new) }
 {

@@ -13,14 +13,14 @@ use lit_plan::Compiled;
 use shift_search::{ShiftOr, ShiftOrEnds};
 use std::alloc::Global;
 use text_automaton::{Automaton, AutomatonEnds};
-use text_ends::{EndRate, Ends};
+use text_ends::{EndRate, EndWalk};
 use text_search::EndFinder;
 
 /// The length in bytes of the samples.
 const SAMPLE: usize = 20_000;
 
 /// At most `count` more ends of a walk through a text.
-fn more_ends<E: Ends>(ends: &mut E, text: &[u8], progress: Progress, count: usize) -> Progress {
+fn more_ends<E: EndWalk>(ends: &mut E, text: &[u8], progress: Progress, count: usize) -> Progress {
     let (mut from, mut summary) = progress;
     for _ in 0..count {
         let Some((end, _)) = ends.next_end() else {

@@ -17,13 +17,13 @@ loop-width-preserved c = record {
       elim (cases_lt width c.loop-width.width) [
         | inl before ↦ bit_of_left c.loop-width.found byte back (c.loop-width.invariant.found width back enough before marked)
         | inr last ↦ bit_of_right c.loop-width.found byte back
-            (read_width c.args.hash_bits.now.items c.word_before-word.result c.case_bits-case_bits.result c.loop-width.width width byte back c.hash_bits_of-short.ensures (omega (arith, less, last)) marked)
+            (read_width c.args.hash_bits.now c.word_before-word.result c.case_bits-case_bits.result c.loop-width.width width byte back c.hash_bits_of-short.ensures (omega (arith, less, last)) marked)
       ];
 }
 
 pub returns : goal.returns
 returns c = λ width back enough most begins marked.
-    let hash_bits = c.args.hash_bits.now.items in
+    let hash_bits = c.args.hash_bits.now in
     let word = c.word_before-word.result in
     let case = c.case_bits-case_bits.result in
     let long = c.hash_bits_of-long.result in

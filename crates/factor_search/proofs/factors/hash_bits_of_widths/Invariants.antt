@@ -9,5 +9,5 @@ use Rattle.factor_search.proofs.factors.hash_bits_of_widths.Given as goal
 abbrev pub invariant-loop-width : goal.invariant-loop-width
 invariant-loop-width l = record {
   some : 0 < l.width;
-  found : (width back : ℕ) → l.least ≤ width → width < l.width → HasBit l.hash_bits.items (hash_of HASH_BITS (masked_key l.word width l.case_bits)) back → bit_at l.found back ≡ 1;
+  found : (width back : ℕ) → l.least ≤ width → width < l.width → HasBit l.hash_bits (hash_of HASH_BITS (masked_key l.word width l.case_bits)) back → bit_at l.found back ≡ 1;
 }

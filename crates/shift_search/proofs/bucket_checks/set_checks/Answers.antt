@@ -12,8 +12,8 @@ pub loop-place-preserved : goal.loop-place-preserved
 loop-place-preserved c =
     let l = c.args.list.now in
     let place = c.loop-place.place in
-    let buckets = c.args.buckets.now.items in
-    let widths = c.args.widths.now.items in
+    let buckets = c.args.buckets.now in
+    let widths = c.args.widths.now in
     let inside : place < length l.texts = omega (arith, c.loop-place-test.true) in
     let here : c.get-literal.result.now ≡ literal_at l place = get_or_read l.texts place c.get-literal.result.now inside c.get-literal.ensures.value [] in
     let its : c.bucket_of-bucket.result ≡ bucket_at buckets place = c.bucket_of-bucket.ensures in

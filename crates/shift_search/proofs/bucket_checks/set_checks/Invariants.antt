@@ -5,4 +5,4 @@ use Rattle.shift_search.proofs.bucket_checks.set_checks.Given as goal
 
 -- the literals passed have their bits, and nothing else has
 abbrev pub invariant-loop-place : goal.invariant-loop-place
-invariant-loop-place l = AreKeyBits CHECK_BITS (bucket_key l.list l.buckets.items l.widths.items) (bucket_at l.buckets.items) l.place l.table.items
+invariant-loop-place l = AreKeyBits CHECK_BITS (bucket_key l.list l.buckets l.widths) (bucket_at l.buckets) l.place l.table.items

@@ -15,5 +15,5 @@ loop-place-preserved c =
     record {
       len = c.let_through.ensures.len;
       cleared = λ number bit small. more_cleared (c.loop-place.invariant.cleared number bit small) (cleared number bit small)
-          (more_literals l c.args.buckets.now.items (FitsPair l.folding number) place bit c.bucket_of-bucket.result c.get.result.now here c.bucket_of-bucket.ensures);
+          (more_literals l c.args.buckets.now (FitsPair l.folding number) place bit c.bucket_of-bucket.result c.get.result.now here c.bucket_of-bucket.ensures);
     }

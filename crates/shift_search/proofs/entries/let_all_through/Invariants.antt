@@ -7,5 +7,5 @@ use Rattle.shift_search.proofs.entries.let_all_through.Given as goal
 abbrev pub invariant-loop-place : goal.invariant-loop-place
 invariant-loop-place l = record {
   len : vec_len l.entries ≡ ENTRIES;
-  cleared : AreCleared l.fn.entries.items l.entries.items (λ number. IsPass l.list l.buckets.items (FitsPair l.list.folding number) l.place);
+  cleared : AreCleared l.fn.entries.items l.entries.items (λ number. IsPass l.list l.buckets (FitsPair l.list.folding number) l.place);
 }

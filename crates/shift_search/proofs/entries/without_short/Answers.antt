@@ -12,4 +12,4 @@ loop-place-preserved c = λ bit small.
     let place = c.loop-place.place in
     let here : c.get.result.now ≡ literal_at l place = get_or_read l.texts place c.get.result.now (omega (arith, c.loop-place-test.true)) c.get.ensures.value [] in
     more_cleared (c.loop-place.invariant bit small) (c.without_ends-found.ensures bit small)
-    (more_literals l c.args.buckets.now.items IsShort place bit c.bucket_of.result c.get.result.now here c.bucket_of.ensures)
+    (more_literals l c.args.buckets.now IsShort place bit c.bucket_of.result c.get.result.now here c.bucket_of.ensures)

@@ -14,23 +14,23 @@ use Rattle.text_ends.proofs.ends.add_hits_of.Given.{Over}
 
 -- where the walk begins and where it stands
 abbrev first : (g : Over) → In_default-add_hits_at g → Walk
-first g c = g.E.Ends.walk c.args.ends.now
+first g c = g.E.EndWalk.walk c.args.ends.now
 
 abbrev here : (g : Over) → In_default-add_hits_at g → Walk
-here g c = g.E.Ends.walk c.loop-end.ends
+here g c = g.E.EndWalk.walk c.loop-end.ends
 
 -- the position that it reaches
 next_end : (g : Over) (c : In_default-add_hits_at g) → IsNextEnd (first g c).literals c.args.text.now (here g c).from c.in-Some.end
 next_end g c = rw (c.loop-end.invariant.literals, c.loop-end.invariant.text) at c.in-Some.ensures.next
 
 -- it is one of the same literals and the same text
-moved : (g : Over) (c : In_default-add_hits_at g) → g.E.Ends.walk c.next_end.new.self ≡ record (here g c) { from = c.in-Some.end }
+moved : (g : Over) (c : In_default-add_hits_at g) → g.E.EndWalk.walk c.next_end.new.self ≡ record (here g c) { from = c.in-Some.end }
 moved g c = c.in-Some.ensures.moved
 
-same_literals : (g : Over) (c : In_default-add_hits_at g) → (g.E.Ends.walk c.next_end.new.self).literals ≡ (first g c).literals
+same_literals : (g : Over) (c : In_default-add_hits_at g) → (g.E.EndWalk.walk c.next_end.new.self).literals ≡ (first g c).literals
 same_literals g c = ap (λ (w : Walk). w.literals) (moved g c) ∙ c.loop-end.invariant.literals
 
-same_text : (g : Over) (c : In_default-add_hits_at g) → (g.E.Ends.walk c.next_end.new.self).text ≡ c.args.text.now
+same_text : (g : Over) (c : In_default-add_hits_at g) → (g.E.EndWalk.walk c.next_end.new.self).text ≡ c.args.text.now
 same_text g c = ap (λ (w : Walk). w.text) (moved g c) ∙ c.loop-end.invariant.text
 
 -- the hits that the list gains there
@@ -46,7 +46,7 @@ further g c =
 
 pub loop-end-init : goal.loop-end-init
 loop-end-init g c =
-    let w : Walk = g.E.Ends.walk c.args.ends.now in
+    let w : Walk = g.E.EndWalk.walk c.args.ends.now in
     let start : w.from ≡ c.args.from = c.requires.from in
     record {
       literals = refl;
@@ -62,7 +62,7 @@ pub loop-end-preserved : goal.loop-end-preserved
 loop-end-preserved g c =
     let at = (goal.at.loop-end-preserved g c).In_default-add_hits_at in
     let next = next_end g at in
-    let there : (g.E.Ends.walk c.next_end.new.self).from ≡ c.in-Some.end = ap (λ (w : Walk). w.from) (moved g at) in
+    let there : (g.E.EndWalk.walk c.next_end.new.self).from ≡ c.in-Some.end = ap (λ (w : Walk). w.from) (moved g at) in
     record {
       literals = same_literals g at;
       text = same_text g at;
@@ -79,8 +79,8 @@ returns-then-len-before-clause-ok g c =
     let next = next_end g at in
     let all = further g at in
     let more = gained_more c.args.out.now.items c.add_hits_at.new.out.items all.found all.grown in
-    let few : length c.add_hits_at.new.out.items ≤ length c.loop-end.out.items + length (g.E.Ends.walk c.next_end.new.self).literals.texts = c.in_default-add_hits_at.ensures.few in
-    let same : length (g.E.Ends.walk c.next_end.new.self).literals.texts ≡ length (first g at).literals.texts = ap (λ (l : Literals). length l.texts) (same_literals g at) in
+    let few : length c.add_hits_at.new.out.items ≤ length c.loop-end.out.items + length (g.E.EndWalk.walk c.next_end.new.self).literals.texts = c.in_default-add_hits_at.ensures.few in
+    let same : length (g.E.EndWalk.walk c.next_end.new.self).literals.texts ≡ length (first g at).literals.texts = ap (λ (l : Literals). length l.texts) (same_literals g at) in
     record {
       after = omega (arith, next.after, c.loop-end.invariant.ahead);
       within = next.within;
@@ -95,15 +95,15 @@ returns-then-len-before-clause-ok g c =
 pub returns-in-Err-clause-quiet : goal.returns-in-Err-clause-quiet
 returns-in-Err-clause-quiet g c =
     let before = c.loop-end.invariant in
-    let w : Walk = g.E.Ends.walk c.args.ends.now in
-    let next : IsNextEnd w.literals c.args.text.now (g.E.Ends.walk c.loop-end.ends).from c.in-Some.end = rw (before.literals, before.text) at c.in-Some.ensures.next in
+    let w : Walk = g.E.EndWalk.walk c.args.ends.now in
+    let next : IsNextEnd w.literals c.args.text.now (g.E.EndWalk.walk c.loop-end.ends).from c.in-Some.end = rw (before.literals, before.text) at c.in-Some.ensures.next in
     λ none. absurd (none c.in-Some.end (omega (arith, next.after, before.ahead)) next.here)
 
 pub returns-clause-ok : goal.returns-clause-ok
 returns-clause-ok g c =
     let all = c.loop-end.invariant in
-    let l : Literals = (g.E.Ends.walk c.args.ends.now).literals in
-    let from : ℕ = (g.E.Ends.walk c.loop-end.ends).from in
+    let l : Literals = (g.E.EndWalk.walk c.args.ends.now).literals in
+    let from : ℕ = (g.E.EndWalk.walk c.loop-end.ends).from in
     let text = c.args.text.now in
     let none : NoEndAfter l text from = rw (all.literals, all.text) at c.in_default.ensures.next in
     record {

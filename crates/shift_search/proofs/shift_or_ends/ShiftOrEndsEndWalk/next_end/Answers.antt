@@ -2,7 +2,7 @@
 use Rattle.std.proofs.Common.{ℕ, List, Option, None, Some, MatchOption, length}
 use Rattle.lit_base.specs.Literals.{Literals}
 use Rattle.lit_base.specs.NextEnds.{Finds, IsNextEnd, NoEndAfter}
-use Rattle.shift_search.proofs.shift_or_ends.ShiftOrEndsEnds.next_end.Goals as goal
+use Rattle.shift_search.proofs.shift_or_ends.ShiftOrEndsEndWalk.next_end.Goals as goal
 
 -- an end that is found is the next one
 next_of : (l : Literals) (text : List ℕ) (from : ℕ) (found : Option (ℕ × ℕ)) → Finds l text from (length text) found → MatchOption found (NoEndAfter l text from) (λ hit. IsNextEnd l text from hit.0)

@@ -3,7 +3,7 @@ use Rattle.std.proofs.Common.{MatchOption, ◌∙◌, subst, arith}
 use Rattle.lit_base.specs.NextEnds.{IsNextEnd, NoEndAfter}
 use Rattle.text_ends.specs.Walks.{Walk}
 use Rattle.text_ends.proofs.EndLemmas.{next_further, none_further}
-use Rattle.prefilter_search.proofs.prefilter_ends.PrefilterEndsEnds.next_end.Goals as goal
+use Rattle.prefilter_search.proofs.prefilter_ends.PrefilterEndsEndWalk.next_end.Goals as goal
 
 pub next_verified-found-requires-clause-covers : goal.next_verified-found-requires-clause-covers
 next_verified-found-requires-clause-covers c = c.self.invariant.0

@@ -3,7 +3,7 @@ use Rattle.std.proofs.Common.{MatchOption, subst}
 use Rattle.lit_base.specs.NextEnds.{IsNextEnd, NoEndAfter}
 use Rattle.text_ends.specs.Walks.{Walk}
 use Rattle.text_ends.proofs.EndLemmas.{next_or_none_further}
-use Rattle.factor_search.proofs.factor_ends.FactorEndsEnds.next_end.Goals as goal
+use Rattle.factor_search.proofs.factor_ends.FactorEndsEndWalk.next_end.Goals as goal
 
 pub returns-clause-next : goal.returns-clause-next
 returns-clause-next c =
