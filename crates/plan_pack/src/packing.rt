@@ -1,10 +1,11 @@
 //! Making a plan file.
-ghost use Rattle.std.specs.Prelude.{◌≡◌, ◌≤◌, ◌+◌, ◌||◌, ◌++◌, ◌∷◌, [], IfErr, IfOk, IfSome, Option, false, length, map, string_bytes};
+ghost use Rattle.std.specs.Prelude.{◌≡◌, ◌≤◌, ◌+◌, ◌||◌, ◌++◌, ◌∷◌, [], Err, IfErr, IfOk, IfSome, Option, false, length, map, string_bytes};
 ghost use Rattle.byte_io.specs.Devices.{IfKnown};
 ghost use Rattle.byte_io.specs.Sources.{AreShort, Created, after, can_create};
 ghost use Rattle.plan_pack.specs.Asking.{Asks, asks_for_plans, is_file, pack_asks, reads_file};
 ghost use Rattle.plan_pack.specs.Packing.{MakesFile, MakesPack, Packs, PacksFiles, answer_of};
 ghost use Rattle.plan_pack.specs.Stops.{is_refusal, is_refused, is_write};
+ghost use Rattle.plan_pack.specs.declared.stop.Stop.{Stop};
 
 use crate::notation::Reading;
 use crate::planning::plan_of;
@@ -161,7 +162,7 @@ pub fn make<'a, F: Files>(
 /// - `Refused`, with its name, where a write failed.
 /// - `OutOfMemory`, where a growth was refused.
 ///
-/// After both of them a prefix of the plan file was written, and not all of it.
+/// After a refusal a prefix of the plan file was written, and not all of it. After `OutOfMemory` nothing was written.
 pub fn pack_into<'a, W: ByteOut>(
     alloc: Global,
     plans: &[Compiled],
@@ -170,6 +171,7 @@ pub fn pack_into<'a, W: ByteOut>(
 ) -> Result<(), Stop<'a>>
     requires { length plans.now ≤ 64 }
     ensures packed { Packs name.now plans.now result (W.written out.old) (W.written out.new) }
+    ensures starved { result ≡ Err Stop.OutOfMemory → out.new ≡ out.old }
 
     // It is refused exactly where a write failed.
     ensures flag { W.has_failed out.new ≡ (W.has_failed out.old || is_refused result) }

@@ -1,5 +1,5 @@
 -- One case of a session's event each: how a request and its replies come to be a step.
-use Rattle.std.proofs.Common.{◌≡◌, ℕ, ◌+◌, ◌^◌, ◌<◌, ◌≤◌, List, [], ◌∷◌, ◌++◌, length, map, Option, Some, None, MatchOption, Contains, true, false, refl, sym, ap, ◌∙◌, subst, inl, inr, arith}
+use Rattle.std.proofs.Common.{◌≡◌, ◌≢◌, ℕ, ◌+◌, ◌^◌, ◌<◌, ◌≤◌, List, [], ◌∷◌, ◌++◌, length, map, Option, Some, None, MatchOption, Contains, true, false, refl, sym, ap, ◌∙◌, subst, inl, inr, arith}
 use Rattle.std.specs.Prelude.{is_some, nat_eq, nat_le, if◌then◌else◌}
 use Rattle.std.specs.Map.{lookup, set_value}
 use Rattle.std.proofs.Math.ListN.{set}
@@ -11,14 +11,14 @@ use Rattle.lit_base.specs.declared.profile.Profile.{Profile}
 use Rattle.plan_store.specs.Tickets.{TicketParts}
 use Rattle.flow_scan.specs.Scanners.{fed, started}
 use Rattle.flow_scan.specs.Tails.{AreAdded}
-use Rattle.scan_wire.specs.Messages.{RequestParts, ReplyParts, Publish, Open, Feed, Close, ShowPlan, Published, Opened, Closed}
+use Rattle.scan_wire.specs.Messages.{RequestParts, ReplyParts, Publish, Open, Feed, Close, ShowPlan, Published, Opened, Hits, Fed, Closed, Plan, Refused}
 use Rattle.scan_core.specs.declared.refusal.Refusal.{Refusal}
 use Rattle.scan_core.specs.declared.refusal.Refusal.TheVariants.{StreamInUse, StreamQuota, NoSuchPlan, NoSuchStream, StreamTooLong}
 use Rattle.scan_core.specs.declared.limits.TheConstants.{MAX_STREAMS}
 use Rattle.scan_wire.specs.declared.message.TheConstants.{MAX_HITS}
 use Rattle.scan_core.specs.Blocks.{AreBlocks}
 use Rattle.scan_core.specs.Publishing.{IsPlanFor}
-use Rattle.scan_core.specs.Refusals.{publish_refusal}
+use Rattle.scan_core.specs.Refusals.{code_of, publish_refusal}
 use Rattle.scan_core.specs.Sessions.{Bound, IsEvent, Serving, by_tails, entry_of, parts_of}
 use Rattle.scan_core.specs.Steps.{AgreeWith, Entry, IsAccepted, IsSound, IsStep, Outcome, Reading, SessionParts, closed, fed_replies, known_entries, moved, opened, plan_reply, published, refusal_of, refused, refused_reply, shown, stream_at, stream_of, stream_refusal}
 use Rattle.scan_core.specs.Streams.{MovesTo, StandsAt}
@@ -196,3 +196,22 @@ opened_none s stream number reply none stranger replied =
           (inr record { stranger = subst (λ ns. ¬ Contains ns number) (sym (ap (map (λ (entry : Entry). entry.number)) (known_shown s) ∙ numbers_shown (tickets_of s))) stranger; is = refl });
       store = refl;
     }
+
+-- the code in the first of some replies, if that is a refusal
+first_code : List ReplyParts → ℕ
+first_code [] = 0
+first_code (Published number ∷ replies) = 0
+first_code (Opened stream ∷ replies) = 0
+first_code (Hits stream hits ∷ replies) = 0
+first_code (Fed stream place ∷ replies) = 0
+first_code (Closed stream ∷ replies) = 0
+first_code (Plan stream fold profile count cost ends ∷ replies) = 0
+first_code (Refused stream code detail ∷ replies) = code
+
+-- a refusal with another code is not that there is no such plan
+pub other_refusal : (stream : ℕ) (why : Refusal) (reply : ReplyParts) → reply ≡ refused_reply stream why → code_of why ≢ code_of NoSuchPlan → reply ∷ [] ≢ refused_reply stream NoSuchPlan ∷ []
+other_refusal stream why reply is other = λ same. other (ap first_code (sym (ap (λ (r : ReplyParts). r ∷ []) is) ∙ same))
+
+-- nor is the reply to an Open
+pub opened_reply : (stream other : ℕ) → Opened stream ∷ [] ≢ refused_reply other NoSuchPlan ∷ []
+opened_reply stream other = λ same. omega (arith, ap first_code same)

@@ -1,5 +1,5 @@
 //! A session: what one client has published and opened, and how it is answered.
-ghost use Rattle.std.specs.Prelude.{◌≡◌, ◌∷◌, ◌++◌, ◌<◌, [], IfErr, IfNone, IfOk, IfSome, None, Some, IsOk, IsOkUnless, OnErr, OnOk, Contains, length, map};
+ghost use Rattle.std.specs.Prelude.{◌≡◌, ◌≢◌, ◌∷◌, ◌++◌, ◌<◌, [], All, IfErr, IfNone, IfOk, IfSome, None, Some, IsOk, IsOkUnless, OnErr, OnOk, Contains, length, map};
 ghost use Rattle.std.specs.List.{slice_get};
 ghost use Rattle.lit_base.specs.NextEnds.{NoEndAfter};
 ghost use Rattle.plan_store.specs.Tickets.{IsOf};
@@ -7,9 +7,10 @@ ghost use Rattle.scan_wire.specs.Messages.{Close, Feed, Open, Publish, ShowPlan,
 ghost use Rattle.scan_core.specs.Prefixes.{FeedsPrefix, MayFeed};
 ghost use Rattle.scan_core.specs.Refusals.{publish_refusal};
 ghost use Rattle.scan_core.specs.Sessions.{GainsEvent, IsEvent, by_tails, fresh, parts_of};
-ghost use Rattle.scan_core.specs.Steps.{refusal_of, stream_at};
+ghost use Rattle.scan_core.specs.Steps.{refusal_of, refused_reply, stream_at};
 ghost use Rattle.scan_core.specs.Together.{tickets_of};
 ghost use Rattle.scan_core.specs.declared.fault.Fault.TheVariants.{OutOfMemory};
+ghost use Rattle.scan_core.specs.declared.refusal.Refusal.TheVariants.{NoSuchPlan};
 
 use crate::answering::push_answer;
 use crate::fault::Fault;
@@ -19,7 +20,7 @@ use crate::publishing::planned;
 use crate::refusal::{Refusal, refusal_of_literals};
 use crate::session_finder::SessionFinder;
 use crate::stream::{Stream, find_stream};
-use crate::tickets::{agrees_with, known_ticket};
+use crate::tickets::{agrees_with, known_ticket, ticket_among};
 use flow_scan::Hit;
 use lit_base::{Fold, Profile};
 use plan_store::{PlanStore, Ticket};
@@ -122,7 +123,7 @@ impl<'s> Session<'s> {
             }
             Request::Open { stream, number } => {
                 out.reserve(1)?;
-                let Ok(reply) = self.open(alloc, stream, number) else {
+                let Ok(reply) = self.open(alloc, &[], stream, number) else {
                     return Err(Fault::OutOfMemory);
                 };
                 out.push_reserved(reply);
@@ -172,20 +173,24 @@ impl<'s> Session<'s> {
     }
 
     /// The reply to an Open, which binds the stream to the plan of the number. It finds each number of a plan that this
-    /// session published, or has a stream open by. The only fault is `OutOfMemory`, where the number was found and
-    /// nothing is refused: it comes with a ticket of the number.
+    /// session published, or has a stream open by, and each number of `loaded`, tickets of its store. The only fault is
+    /// `OutOfMemory`, where the number was found and nothing is refused: it comes with a ticket of the number.
     pub fn open(
         &mut self,
         alloc: Global,
+        loaded: &[Ticket],
         stream: u32,
         number: u64,
     ) -> Result<Reply, (Fault, Ticket)>
+        requires { All (IsOf self.old.store) loaded.now }
         ensures ok { IfOk result (λ reply. IsEvent self.old (Open stream number) (reply_parts reply ∷ []) self.new) }
         ensures same { OnErr result (self.new ≡ self.old) }
         ensures fault { IfErr result (λ refusal. refusal.0 ≡ OutOfMemory) }
         ensures accepted { OnErr result (refusal_of by_tails (parts_of self.old) (Open stream number) ≡ None) }
         ensures found { IfErr result (λ refusal. IsOf self.old.store refusal.1) }
         ensures number { IfErr result (λ refusal. refusal.1.number ≡ number) }
+        ensures loaded { IfOk result (λ reply. Contains (map (λ ticket. ticket.number) loaded.now) number
+            → reply_parts reply ∷ [] ≢ refused_reply stream NoSuchPlan ∷ []) }
     {
         if find_stream(&self.streams, stream).is_some() {
             return Ok(Refusal::StreamInUse.reply(stream));
@@ -193,7 +198,7 @@ impl<'s> Session<'s> {
         if self.streams.len() >= MAX_STREAMS {
             return Ok(Refusal::StreamQuota.reply(stream));
         }
-        let Some(ticket) = self.ticket_of(number) else {
+        let Some(ticket) = self.ticket_of(loaded, number) else {
             return Ok(Refusal::NoSuchPlan.reply(stream));
         };
         agrees_with(&ticket, self);
@@ -204,15 +209,21 @@ impl<'s> Session<'s> {
         Ok(Reply::Opened { stream })
     }
 
-    /// A ticket of a number: one of this session, or else one of another session.
-    fn ticket_of(&self, number: u64) -> Option<Ticket>
+    /// A ticket of a number: one of this session or of `loaded`, or else one of another session.
+    fn ticket_of(&self, loaded: &[Ticket], number: u64) -> Option<Ticket>
+        requires { All (IsOf self.now.store) loaded.now }
         ensures here { IfSome result (λ ticket. IsOf self.now.store ticket) }
         ensures number { IfSome result (λ ticket. ticket.number ≡ number) }
         ensures stranger { IfNone result (¬ Contains (map (λ ticket. ticket.number) (tickets_of self.now)) number) }
+        ensures loaded { IfNone result (¬ Contains (map (λ ticket. ticket.number) loaded.now) number) }
     {
         let known = known_ticket(self, number);
         if known.is_some() {
             return known;
+        }
+        let among = ticket_among(self.store, loaded, number);
+        if among.is_some() {
+            return among;
         }
         self.store.find(number)
     }

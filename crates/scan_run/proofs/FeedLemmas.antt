@@ -18,7 +18,7 @@ use Rattle.scan_core.specs.Sessions.{IsEvent, Serving}
 use Rattle.scan_core.specs.Steps.{fed_replies}
 use Rattle.scan_core.proofs.BlockLemmas.{blocks_after, blocks_exist, full-append, joined-append}
 use Rattle.scan_core.proofs.PrefixLemmas.{feeding_completes, feeding_ends, feeding_more, feeding_none}
-use Rattle.scan_run.specs.Beside.{AgreeAfter, IsEventBeside, IsStepBeside}
+use Rattle.scan_run.specs.Beside.{AgreeAfter, FindsLoaded, IsEventBeside, IsStepBeside}
 use Rattle.scan_run.specs.Feeding.{FeedsOn, HasFed, StopsFeeding, last_block}
 use Rattle.scan_run.proofs.SendingLemmas.{last_is, last_some, one_text, sent_both, sent_last}
 
@@ -154,22 +154,25 @@ stopped_feeding s t stream piece rest place hits v w x a b may so (inr (count, g
 
 -- a request by which a session gains no ticket
 abbrev GainsNone : RequestParts → Type 0
-GainsNone request = (loaded : List TicketParts) (replies : List ReplyParts) (later : Serving) → AgreeAfter loaded request replies later
+GainsNone request = (loaded : List TicketParts) (replies : List ReplyParts) (later : Serving) → AgreeAfter loaded request replies later × FindsLoaded loaded request replies
 
 -- is answered beside loaded plans as it is alone
 pub answered_beside : (loaded : List TicketParts) (s t : Serving) (request : RequestParts) (v w : Option (List ℕ)) (a b : List ℕ) → GainsNone request → Answered IsEvent s t request v w a b → Answered (IsEventBeside loaded) s t request v w a b
 answered_beside loaded s t request v w a b none answered =
-    record { replies = answered.replies; is_step = record { event = answered.is_step; agreed = none loaded answered.replies t }; sent = answered.sent }
+    let gained = none loaded answered.replies t in
+    record { replies = answered.replies; is_step = record { event = answered.is_step; agreed = gained.0; found = gained.1 }; sent = answered.sent }
 
 -- and answering it stops so
 pub stopped_beside : (loaded : List TicketParts) (s : Serving) (request : RequestParts) (v w : Option (List ℕ)) (a : List ℕ) → GainsNone request → Stopped IsEvent s request v w a → Stopped (IsEventBeside loaded) s request v w a
 stopped_beside loaded s request v w a none (inl nothing) = inl nothing
-stopped_beside loaded s request v w a none (inr cut) = inr (record {
-  replies = cut.replies;
-  new = cut.new;
-  is_step = record { event = cut.is_step; agreed = none loaded cut.replies cut.new };
-  sent = cut.sent;
-})
+stopped_beside loaded s request v w a none (inr cut) =
+    let gained = none loaded cut.replies cut.new in
+    inr (record {
+      replies = cut.replies;
+      new = cut.new;
+      is_step = record { event = cut.is_step; agreed = gained.0; found = gained.1 };
+      sent = cut.sent;
+    })
 
 -- a session that keeps its tickets is answered with them
 pub answered_with : (loaded : List TicketParts) (s t : Serving) (request : RequestParts) (v w : Option (List ℕ)) (a b : List ℕ) → Answered (IsEventBeside loaded) s t request v w a b

@@ -1,10 +1,12 @@
 -- A session beside plans that were published before it, known by their tickets.
-use Rattle.std.specs.Prelude.{◌≡◌, ℕ, List, [], ◌∷◌, Some, ⊤}
+use Rattle.std.specs.Prelude.{◌≡◌, ◌≢◌, ℕ, List, [], ◌∷◌, Contains, Some, map, ⊤}
 use Rattle.std.specs.List.{slice_get}
 use Rattle.plan_store.specs.Tickets.{TicketParts}
 use Rattle.scan_wire.specs.Messages.{Close, Closed, Fed, Feed, Hits, Open, Opened, Plan, Publish, Published, Refused, ReplyParts, RequestParts, ShowPlan}
 use Rattle.scan_core.specs.Sessions.{IsEvent, Serving}
+use Rattle.scan_core.specs.Steps.{refused_reply}
 use Rattle.scan_core.specs.Together.{AgreesWith}
+use Rattle.scan_core.specs.declared.refusal.Refusal.TheVariants.{NoSuchPlan}
 
 -- a number shows one plan, in these tickets and in a session
 abbrev pub AgreeOn : List TicketParts → ℕ → Serving → Type 0
@@ -29,10 +31,21 @@ AgreeAfter loaded (Feed stream piece) replies after = ⊤
 AgreeAfter loaded (Close stream) replies after = ⊤
 AgreeAfter loaded (ShowPlan stream) replies after = ⊤
 
--- A request is one event of a session. A plan that it gains by this has no number of another loaded plan.
+-- an Open of the number of a loaded plan is not answered that there is no such plan
+abbrev pub FindsLoaded : List TicketParts → RequestParts → List ReplyParts → Type 0
+FindsLoaded loaded (Publish fold profile literals) replies = ⊤
+FindsLoaded loaded (Open stream number) replies =
+    Contains (map (λ (ticket : TicketParts). ticket.number) loaded) number → replies ≢ refused_reply stream NoSuchPlan ∷ []
+FindsLoaded loaded (Feed stream piece) replies = ⊤
+FindsLoaded loaded (Close stream) replies = ⊤
+FindsLoaded loaded (ShowPlan stream) replies = ⊤
+
+-- A request is one event of a session. A plan that it gains by this has no number of another loaded plan, and each loaded plan
+-- is found.
 pub record IsEventBeside (loaded : List TicketParts) (before : Serving) (request : RequestParts) (replies : List ReplyParts) (after : Serving) : Type 0 where
   pub event : IsEvent before request replies after
   pub agreed : AgreeAfter loaded request replies after
+  pub found : FindsLoaded loaded request replies
 
 -- ---- inside the crate: the session with the tickets
 

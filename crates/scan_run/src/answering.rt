@@ -51,7 +51,7 @@ fn agree_replied(loaded: &[Ticket], reply: &Reply, session: &Session<'_>)
 }
 
 /// Answers a request of a session. `loaded` are tickets of its store: no plan that the session gains has the number of
-/// another loaded plan.
+/// another loaded plan, and an Open finds each of them.
 pub(crate) fn answer_request<R: Wait, W: ByteOut>(
     rt: &R,
     alloc: Global,
@@ -137,7 +137,7 @@ fn answer_open<W: ByteOut>(
     ensures flag { result ≢ Err Stop.WriteFault → W.has_failed out.new ≡ W.has_failed out.old }
     ensures store { session.new.store ≡ session.old.store }
 {
-    let Ok(reply) = session.open(alloc, stream, number) else {
+    let Ok(reply) = session.open(alloc, loaded, stream, number) else {
         return Err(Stop::OutOfMemory);
     };
     agree_on(loaded, number, session);

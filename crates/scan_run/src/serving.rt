@@ -137,7 +137,7 @@ pub fn serve_session<'s, R: Wait, I: ByteIn, O: ByteOut>(
 }
 
 /// Serves a session of the store as `serve` does. `loaded` are tickets of plans that were published before: no plan
-/// that the session publishes or opens has the number of another loaded plan.
+/// that the session publishes or opens has the number of another loaded plan, and an Open finds each of them.
 pub fn serve_loaded<R: Wait, I: ByteIn, O: ByteOut>(
     rt: &R,
     alloc: Global,

@@ -10,12 +10,12 @@ pub returns-clause-ok : goal.returns-clause-ok
 returns-clause-ok g c =
     ok_weaker c.push.result
     (answered_one (IsEventBeside c.args.loaded.now) c.args.session.now c.open.new.self (Open c.args.stream c.args.number) (reply_parts c.in-Ok.reply) _ _ _ _
-    (record { event = c.in-Ok.ensures.ok; agreed = c.agree_on.ensures }))
+    (record { event = c.in-Ok.ensures.ok; agreed = c.agree_on.ensures; found = c.in-Ok.ensures.loaded }))
     c.push.ensures.ok
 
 pub returns-clause-err : goal.returns-clause-err
 returns-clause-err g c =
     err_weaker c.push.result
     (stopped_one (IsEventBeside c.args.loaded.now) c.args.session.now c.open.new.self (Open c.args.stream c.args.number) (reply_parts c.in-Ok.reply) _ _ _
-    (record { event = c.in-Ok.ensures.ok; agreed = c.agree_on.ensures }))
+    (record { event = c.in-Ok.ensures.ok; agreed = c.agree_on.ensures; found = c.in-Ok.ensures.loaded }))
     c.push.ensures.err

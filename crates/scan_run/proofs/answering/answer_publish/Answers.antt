@@ -10,12 +10,12 @@ pub returns-clause-ok : goal.returns-clause-ok
 returns-clause-ok g c =
     ok_weaker c.push.result
     (answered_one (IsEventBeside c.args.loaded.now) c.args.session.now c.publish.new.self (Publish c.args.fold c.args.profile (texts_of c.args.literals.now)) (reply_parts c.in-Ok.reply) _ _ _ _
-    (record { event = c.in-Ok.ensures.ok; agreed = c.agree_replied.ensures }))
+    (record { event = c.in-Ok.ensures.ok; agreed = c.agree_replied.ensures; found = tt }))
     c.push.ensures.ok
 
 pub returns-clause-err : goal.returns-clause-err
 returns-clause-err g c =
     err_weaker c.push.result
     (stopped_one (IsEventBeside c.args.loaded.now) c.args.session.now c.publish.new.self (Publish c.args.fold c.args.profile (texts_of c.args.literals.now)) (reply_parts c.in-Ok.reply) _ _ _
-    (record { event = c.in-Ok.ensures.ok; agreed = c.agree_replied.ensures }))
+    (record { event = c.in-Ok.ensures.ok; agreed = c.agree_replied.ensures; found = tt }))
     c.push.ensures.err

@@ -9,5 +9,5 @@ pub returns-in-Close-clause-err : goal.returns-in-Close-clause-err
 returns-in-Close-clause-err g c =
     rw c.in-Close.is (err_weaker c.push.result
     (stopped_one (IsEventBeside c.args.loaded.now) c.args.session.now c.close.new.self (Close c.in-Close.stream) (reply_parts c.close.result) _ _ _
-    (record { event = c.close.ensures; agreed = tt }))
+    (record { event = c.close.ensures; agreed = tt; found = tt }))
     c.push.ensures.err)

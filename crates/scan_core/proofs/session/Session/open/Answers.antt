@@ -12,7 +12,7 @@ use Rattle.scan_core.specs.Steps.{IsSound}
 use Rattle.scan_core.specs.Streams.{StandsAt}
 use Rattle.scan_core.specs.Together.{AgreesWith, tickets_of}
 use Rattle.scan_core.proofs.ServingLemmas.{found, found_none}
-use Rattle.scan_core.proofs.StepLemmas.{event_refused, opened_free, opened_none, opened_stream, opened_twice}
+use Rattle.scan_core.proofs.StepLemmas.{event_refused, opened_free, opened_none, opened_reply, opened_stream, opened_twice, other_refusal}
 use Rattle.scan_core.proofs.TicketLemmas.{known_agree}
 use Rattle.scan_core.proofs.session.Session.open.Goals as goal
 
@@ -67,3 +67,12 @@ returns-clause-ok c =
     subst (λ (t : Serving). IsEvent t request (Opened c.args.stream ∷ []) new) c.self.view_is
     (opened_stream s c.args.stream c.args.number c.in-Some.ticket (Opened c.args.stream) new (opened_free s c.args.stream c.args.number free few)
     (subst (λ (t : TicketParts). IsSound t.plan) c.again.ensures c.in-Ok.ensures.sound) (known_agree s c.in-Some.ticket agreed) c.in-Some.ensures.number refl (ap (λ (streams : List (ℕ × Bound)). record s { streams = streams }) grown))
+
+pub returns-then-is_some-clause-loaded : goal.returns-then-is_some-clause-loaded
+returns-then-is_some-clause-loaded c = λ _. other_refusal c.args.stream StreamInUse (reply_parts c.reply.result) c.reply.ensures (λ same. omega (arith, same))
+
+pub returns-in_default-clause-loaded : goal.returns-in_default-clause-loaded
+returns-in_default-clause-loaded c = λ has. absurd (c.in_default.ensures.loaded has)
+
+pub returns-clause-loaded : goal.returns-clause-loaded
+returns-clause-loaded c = λ _. opened_reply c.args.stream c.args.stream
