@@ -1,5 +1,5 @@
 -- The refusal of a list: none where all is within its limits.
-use Rattle.std.proofs.Common.{◌≡◌, ℕ, List, IfErr, Option, None, Some, Ok, Err, Result, ap, refl, subst, sym}
+use Rattle.std.proofs.Common.{◌≡◌, ◌⊎◌, ℕ, List, IfErr, Option, None, Some, Ok, Err, Result, inl, inr, ap, refl, subst, sym}
 use Rattle.std.specs.List.{AllZip}
 use Rattle.byte_io.specs.Devices.{IfKnown}
 use Rattle.byte_io.specs.Sources.{AreShort, Sources, after, ask_of, taken_by}
@@ -13,7 +13,9 @@ use Rattle.lit_base.specs.declared.lit_list.Normal.{Normal}
 use Rattle.plan_pack.specs.Lists.{ArePlaces}
 use Rattle.plan_pack.specs.Taken.{NamesStop, TakesList, TakesPlaces}
 use Rattle.plan_pack.specs.declared.notation.Reading.{Reading}
+use Rattle.plan_pack.specs.declared.stop.Refusal.TheVariants.{NoLiterals}
 use Rattle.plan_pack.specs.declared.stop.Stop.{Stop}
+use Rattle.plan_pack.specs.declared.stop.Stop.TheVariants.{OutOfMemory, Refused}
 
 -- a call that was done is not refused
 pub not-refused : (refusal : Option Fault) (r : Result (Unit {0}) Fault) → RefusedBy refusal r → r ≡ Ok tt → refusal ≡ None
@@ -42,3 +44,13 @@ pub named-reported : {T : Type 0} (reading : Reading) (file : List ℕ) (known l
 named-reported reading file known left (Ok list) named = tt
 named-reported reading file known left (Err stop) named =
     IfKnown-weaker known left _ (λ s l. AreShort s → NamesStop reading (taken_by (ask_of file) s) stop) named (λ s l h short. (h short).1)
+
+-- where a list that was had is refused, it has no literal, and no pattern is named
+pub none-named : {T : Type 0} (reading : Reading) (file : List ℕ) (known mid : Option Sources) (P : Sources → Sources → Type 0) (r : Result T Stop)
+    → IfErr r (λ stop. (stop ≡ Refused NoLiterals) ⊎ (stop ≡ OutOfMemory)) → IfKnown known mid P
+    → IfErr r (λ stop. IfKnown known mid (λ s left. AreShort s → NamesStop reading (taken_by (ask_of file) s) stop))
+none-named reading file known mid P (Ok x) why reads = tt
+none-named reading file known mid P (Err stop) (inl is) reads =
+    IfKnown-weaker known mid P (λ s left. AreShort s → NamesStop reading (taken_by (ask_of file) s) stop) reads (λ s left h short. subst (NamesStop reading (taken_by (ask_of file) s)) (sym is) tt)
+none-named reading file known mid P (Err stop) (inr is) reads =
+    IfKnown-weaker known mid P (λ s left. AreShort s → NamesStop reading (taken_by (ask_of file) s) stop) reads (λ s left h short. subst (NamesStop reading (taken_by (ask_of file) s)) (sym is) tt)

@@ -1,5 +1,5 @@
 -- What was read of a file: its list, its plan, its plans or its text; or why there is none.
-use Rattle.std.specs.Prelude.{◌≡◌, ℕ, List, ⊤, Option, None, Result, Ok, Err}
+use Rattle.std.specs.Prelude.{◌≡◌, ◌↔◌, ℕ, List, [], Contains, IsTrue, ⊤, Option, None, Result, Ok, Err}
 use Rattle.std.specs.Global.{Vec}
 use Rattle.byte_io.specs.Sources.{Content}
 use Rattle.lit_plan.specs.Plans.{Plan}
@@ -18,10 +18,11 @@ abbrev pub TakesList : Reading → List ℕ → Option Content → Result Litera
 TakesList reading name source (Ok list) = (list_message reading name source ≡ None) × (list ≡ list_in reading source)
 TakesList reading name source (Err stop) = Explains stop (list_message reading name source)
 
--- likewise, with where each pattern stands in the list
+-- likewise, with where each pattern stands in the list, and whether one is null
 abbrev pub TakesPlaces : Reading → List ℕ → Option Content → Result (Literals × Normal) Stop → Type 0
 TakesPlaces reading name source (Ok found) =
     (list_message reading name source ≡ None) × (found.0 ≡ list_in reading source) × ArePlaces found.0 (patterns_in reading source) found.1.place_of.items
+    × (IsTrue found.1.has_empty ↔ Contains (patterns_in reading source) [])
 TakesPlaces reading name source (Err stop) = Explains stop (list_message reading name source)
 
 -- where patterns were refused, the refusal is that of the first one

@@ -1,9 +1,7 @@
 //! Plans of sixteen buckets in place of others.
-ghost use Rattle.std.specs.Prelude.{◌≡◌, ◌+◌, ◌++◌, ◌∷◌, ◌<◌, ◌≤◌, [], IfErr, IfOk, IfSome, OnOk, false, length, sum_by};
+ghost use Rattle.std.specs.Prelude.{◌≡◌, ◌+◌, ◌++◌, ◌∷◌, ◌≤◌, [], IfErr, IfOk, IfSome, OnOk, false, length};
 ghost use Rattle.byte_io.specs.Devices.{IfKnown};
 ghost use Rattle.byte_io.specs.Sources.{AreShort, Created};
-ghost use Rattle.lit_base.specs.declared.fault.Fault.TheVariants.{OutOfMemory as refused_memory};
-ghost use Rattle.lit_base.specs.declared.limits.TheConstants.{MAX_LIST_LEN, MAX_LITERAL_LEN, MAX_LITERALS};
 ghost use Rattle.plan_pack.specs.Asking.{Asks, LeavesMigrate, UnlessStarved, migrate_asks};
 ghost use Rattle.plan_pack.specs.Migrated.{AreMigrated, IsMigrated, migrated_line, migrated_lines};
 ghost use Rattle.plan_pack.specs.Migrating.{MakesMigrated, Migrates};
@@ -17,8 +15,8 @@ use crate::reading::plans_of;
 use crate::stop::Stop;
 use byte_io::Files;
 use flow_scan::Compiled;
-use list_plan::compile;
-use lit_base::{LitList, Profile, RawList};
+use lit_base::Profile;
+use run_planner::plan;
 use std::alloc::{AllocError, Global};
 
 /// Migrates the plans of a plan file to another. Returns a line for each plan, and the new file as it was written. The
@@ -103,48 +101,18 @@ pub fn migrate(alloc: Global, plans: &[Compiled]) -> Result<Vec<Compiled>, Fault
     Ok(new)
 }
 
-/// The plan of sixteen buckets of a plan's list.
-fn migrated(alloc: Global, plan: &Compiled) -> Result<Compiled, AllocError>
-    ensures { IfOk result (IsMigrated plan.now) }
+/// The plan of sixteen buckets of a plan's list, which both plans share.
+fn migrated(alloc: Global, old: &Compiled) -> Result<Compiled, AllocError>
+    ensures { IfOk result (IsMigrated old.now) }
 {
     // What its certificate shows is needed below: no cut into eight runs or sixteen is cheaper than the new one.
-    let _certificate = plan.certificate();
-    let list = copied(alloc, plan.list())?;
-    match compile(alloc, list, Profile::Sixteen) {
-        Ok(new) => Ok(new),
+    let _certificate = old.certificate();
+    match plan(alloc, old.list(), Profile::Sixteen) {
+        Ok(certificate) => Ok(Compiled::certified(old.shared_index()?, certificate)),
         Err(run_planner::Fault::OutOfMemory) => Err(AllocError),
         // A list that has a plan has a literal.
         Err(run_planner::Fault::NoLiterals) => unreachable!(),
     }
-}
-
-/// The same list once more.
-fn copied(alloc: Global, list: &LitList) -> Result<LitList, AllocError>
-    ensures { IfOk result (λ copy. copy ≡ list.now) }
-{
-    list.normal_law();
-    let mut raw = RawList::new(alloc);
-    for place in 0..list.len() {
-        push(&mut raw, list.get(place))?;
-    }
-    LitList::from_normal(alloc, raw, list.fold()).map_err(no_memory)
-}
-
-/// Appends a literal for which there is room.
-fn push(list: &mut RawList, literal: &[u8]) -> Result<(), AllocError>
-    requires few { length list.old < MAX_LITERALS }
-    requires short { length literal.now ≤ MAX_LITERAL_LEN }
-    requires small { sum_by length list.old + length literal.now ≤ MAX_LIST_LEN }
-    ensures { OnOk result (list.new ≡ list.old ++ literal.now ∷ []) }
-{
-    list.push(literal).map_err(no_memory)
-}
-
-/// The one refusal of a list that is within its limits.
-fn no_memory(_refusal: lit_base::Fault) -> AllocError
-    requires { _refusal ≡ refused_memory }
-{
-    AllocError
 }
 
 /// Appends the lines of plans; the first has this place.

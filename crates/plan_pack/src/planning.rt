@@ -1,9 +1,11 @@
 //! The plan of a file of patterns.
-ghost use Rattle.std.specs.Prelude.{◌≡◌, IfErr, false};
+ghost use Rattle.std.specs.Prelude.{◌≡◌, ◌⊎◌, IfErr, false};
 ghost use Rattle.byte_io.specs.Devices.{IfKnown};
 ghost use Rattle.byte_io.specs.Sources.{AreShort, after, ask_of, taken_by};
 ghost use Rattle.plan_pack.specs.Stops.{is_write};
-ghost use Rattle.plan_pack.specs.Taken.{PlansList, TakesPlan};
+ghost use Rattle.plan_pack.specs.Taken.{NamesStop, PlansList, TakesPlan};
+ghost use Rattle.plan_pack.specs.declared.stop.Refusal.TheVariants.{NoLiterals};
+ghost use Rattle.plan_pack.specs.declared.stop.Stop.TheVariants.{OutOfMemory, Refused};
 
 use crate::notation::Reading;
 use crate::reading::list_of;
@@ -25,6 +27,10 @@ pub fn plan_of<'a, F: Files>(
 ) -> Result<Compiled, Stop<'a>>
     ensures plan { IfKnown (F.sources files.old) (F.sources files.new) (λ s left. AreShort s
         → (left ≡ after (ask_of file.now) s) × TakesPlan reading profile file.now (taken_by (ask_of file.now) s) result) }
+
+    // Where patterns are refused, the refusal names one.
+    ensures named { IfErr result (λ stop. IfKnown (F.sources files.old) (F.sources files.new) (λ s left. AreShort s
+        → NamesStop reading (taken_by (ask_of file.now) s) stop)) }
     ensures unwritten { IfErr result (λ stop. is_write stop ≡ false) }
 {
     match list_of(alloc, reading, file, files) {
@@ -36,6 +42,7 @@ pub fn plan_of<'a, F: Files>(
 /// The plan of a list.
 fn planned<'a>(alloc: Global, profile: Profile, list: LitList) -> Result<Compiled, Stop<'a>>
     ensures plan { PlansList profile list result }
+    ensures faults { IfErr result (λ stop. (stop ≡ Refused NoLiterals) ⊎ (stop ≡ OutOfMemory)) }
     ensures unwritten { IfErr result (λ stop. is_write stop ≡ false) }
 {
     match compile(alloc, list, profile) {

@@ -1,5 +1,5 @@
 //! Reading a file of patterns, a plan file, and the input of a search.
-ghost use Rattle.std.specs.Prelude.{◌≡◌, ◌≢◌, ◌≤◌, length, IfErr, IfOk, MatchResult, None, Some, false};
+ghost use Rattle.std.specs.Prelude.{◌≡◌, ◌≢◌, ◌≤◌, ◌↔◌, [], length, Contains, IfErr, IfOk, IsTrue, MatchResult, None, Some, false};
 ghost use Rattle.byte_io.specs.Devices.{IfKnown};
 ghost use Rattle.byte_io.specs.Sources.{AreShort, Content, IsShort, after, ask_of, coming_of, taken_by};
 ghost use Rattle.plan_pack.specs.Lists.{ArePlaces, literals_of};
@@ -26,6 +26,10 @@ pub fn list_of<'a, F: Files>(
 ) -> Result<LitList, Stop<'a>>
     ensures list { IfKnown (F.sources files.old) (F.sources files.new) (λ s left. AreShort s
         → (left ≡ after (ask_of file.now) s) × TakesList reading file.now (taken_by (ask_of file.now) s) result) }
+
+    // Where patterns are refused, the refusal names one.
+    ensures named { IfErr result (λ stop. IfKnown (F.sources files.old) (F.sources files.new) (λ s left. AreShort s
+        → NamesStop reading (taken_by (ask_of file.now) s) stop)) }
     ensures unwritten { IfErr result (λ stop. is_write stop ≡ false) }
 {
     match placed_list_of(alloc, reading, file, files) {
@@ -86,6 +90,7 @@ fn list_from<'a, I: ByteIn>(
 fn listed(alloc: Global, reading: Reading, text: &[u8]) -> Result<(LitList, Normal), Unlisted>
     ensures ok { IfOk result (λ found. found.0 ≡ record { folding = reading.fold; texts = literals_of reading text.now }) }
     ensures places { IfOk result (λ found. ArePlaces found.0 (patterns_of reading.notation text.now) found.1.place_of.items) }
+    ensures empty { IfOk result (λ found. IsTrue found.1.has_empty ↔ Contains (patterns_of reading.notation text.now) []) }
     ensures refusal { MatchResult result
         (λ _. list_refusal reading.notation text.now ≡ None)
         (λ why. why ≢ Unlisted.BadPatterns Fault.OutOfMemory → list_refusal reading.notation text.now ≡ Some why) }

@@ -97,7 +97,7 @@ published-not store plan tickets err = record {
   grown = sym (append-nil tickets);
   here = All-nil (IsOf store);
   parts = refl;
-  left = tt;
+  left = λ e. (cc);
   said = Appends-nil err;
 }
 
@@ -143,8 +143,12 @@ published-then store xs ys ts us vs a b c r p q =
       said = says-after a b c p.published q.published r p.said q.said;
     }
 
+still-some : (xs ys : List Plan) → xs ≢ [] → xs ++ ys ≢ []
+still-some [] ys some = λ _. some refl
+still-some (x ∷ xs) ys some = λ e. (cc)
+
 left-more : (xs ys : List Plan) (fault : Fault) → MayLeave xs (Err fault) → MayLeave (xs ++ ys) (Err fault)
-left-more xs ys OutOfMemory left = tt
+left-more xs ys OutOfMemory left = still-some xs ys left
 left-more xs ys (BadPlanFile place cause) left = left
 left-more xs ys ReadFault left = left
 left-more xs ys WriteFault left = tt

@@ -82,11 +82,11 @@ pub record IsShownFault (coming : Coming) (place : ℕ) (cause : Cause) : Type 0
   pub first : IsFirstFault coming.text place cause
   pub whatever : coming.ending ≡ Faulty → (more : List ℕ) → IsFirstFault (coming.text ++ more) place cause
 
--- Which plans were published for each answer of loading: all of the file, in order; none; or, where memory ran out or a
--- line could not be written, the first.
+-- Which plans were published for each answer of loading: all of the file, in order; none; where memory ran out, the first, but
+-- not all; or, where a line could not be written, the first.
 abbrev pub Publishes : Option Coming → Option Coming → List Plan → Result (Unit {0}) Fault → Type 0
 Publishes old new plans (Ok _) = IsFileOf old new plans
-Publishes old new plans (Err OutOfMemory) = (plans ≡ []) ⊎ IsFileOfMore old new plans
+Publishes old new plans (Err OutOfMemory) = (plans ≡ []) ⊎ ((more : List Plan) × (more ≢ []) × IsFileOf old new (plans ++ more))
 Publishes old new plans (Err (BadPlanFile place cause)) = (plans ≡ []) × IfSome old (λ x. IsShownFault x place cause)
 Publishes old new plans (Err ReadFault) = plans ≡ []
 Publishes old new plans (Err WriteFault) = IsFileOfMore old new plans
@@ -151,10 +151,10 @@ pub data IsMessage (text : List ℕ) (fault result : Fault) (old new : Option (L
   Written : result ≡ fault → Appends old new text → IsMessage text fault result old new
   Cut : result ≡ WriteFault → AppendsPart old new text → IsMessage text fault result old new
 
--- which plans may be left where publishing comes to this answer: none, or any
+-- which plans may be left where publishing comes to this answer: none, some, or any
 abbrev pub MayLeave : List Plan → Result (Unit {0}) Fault → Type 0
 MayLeave more (Ok _) = more ≡ []
-MayLeave more (Err OutOfMemory) = ⊤
+MayLeave more (Err OutOfMemory) = more ≢ []
 MayLeave more (Err (BadPlanFile place cause)) = ⊥
 MayLeave more (Err ReadFault) = ⊥
 MayLeave more (Err WriteFault) = ⊤
