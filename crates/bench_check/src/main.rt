@@ -110,6 +110,6 @@ fn list_of(alloc: Global, count: u16) -> Result<LitList> {
     for number in 0..count {
         raw.push(&number.to_be_bytes())?;
     }
-    let (list, _) = LitList::normal(alloc, &raw, Fold::No)?;
+    let list = LitList::normal_form(alloc, &raw, Fold::No)?;
     Ok(list)
 }

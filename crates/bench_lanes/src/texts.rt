@@ -45,7 +45,7 @@ pub fn literals(alloc: Global, count: u16) -> Result<LitList>
         let len = 6 + (numbers.next() % 4) as usize;
         raw.push(&word[..len])?;
     }
-    let (list, _) = LitList::normal(alloc, &raw, Fold::No)?;
+    let list = LitList::normal_form(alloc, &raw, Fold::No)?;
     Ok(list)
 }
 

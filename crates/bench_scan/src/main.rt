@@ -85,7 +85,7 @@ fn profile_of(words: &[String]) -> Result<Profile> {
 fn compiled_of(alloc: Global, file: &[u8], profile: Profile) -> Result<Compiled> {
     let mut raw = RawList::new(alloc);
     raw.add_file_bytes(file)?;
-    let (list, _) = LitList::normal(alloc, &raw, Fold::No)?;
+    let list = LitList::normal_form(alloc, &raw, Fold::No)?;
     Ok(compile(alloc, list, profile)?)
 }
 

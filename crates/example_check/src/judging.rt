@@ -21,7 +21,7 @@ pub fn read<R: std::rt::Files + AllocGlobal>(
 ) -> Result<(LitList, Certificate)> {
     let mut raw = RawList::new(rt.alloc());
     raw.add_file_bytes(fs::read(rt, patterns)?.as_slice())?;
-    let (list, _) = LitList::normal(rt.alloc(), &raw, Fold::No)?;
+    let list = LitList::normal_form(rt.alloc(), &raw, Fold::No)?;
     let mut input = FromRead::new(File::open(rt, certificate)?);
     Ok((list, read_cert(rt.alloc(), &mut input)?))
 }

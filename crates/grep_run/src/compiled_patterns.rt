@@ -25,13 +25,11 @@ impl CompiledPatterns {
         ensures ok { IfOk result (λ compiled. StandsFor fold patterns.now compiled.plan compiled.has_empty) }
         ensures err { IfErr result (λ fault. fault ≡ Fault.OutOfMemory) }
     {
-        let (list, normal) = LitList::normal(alloc, patterns, fold)?;
+        let list = LitList::normal_form(alloc, patterns, fold)?;
         let plan = planned(alloc, list)?;
         standing_law();
-        Ok(CompiledPatterns {
-            plan,
-            has_empty: normal.has_empty,
-        })
+        let has_empty = patterns.has_null();
+        Ok(CompiledPatterns { plan, has_empty })
     }
 }
 

@@ -11,7 +11,7 @@ ghost use Rattle.lit_base.specs.declared.limits.TheConstants.{MAX_LITERALS};
 use crate::fault::Fault;
 use crate::fold::{Fold, equals_folded};
 use crate::literal::Literal;
-use crate::normal_form::{distinct, has_null, in_order, places};
+use crate::normal_form::{distinct, in_order, places};
 use crate::raw_list::RawList;
 use std::alloc::Global;
 use std::marker::Model;
@@ -34,10 +34,21 @@ impl Model for LitList {
 }
 
 impl LitList {
-    /// The normal form of the raw list under the fold, and the place in it of each raw pattern.
+    /// The normal form of the raw list under the fold.
     ///
     /// The only error is `OutOfMemory`, since a list has no more literals than patterns. It takes time n log n for n
     /// pattern bytes.
+    pub fn normal_form(alloc: Global, raw: &RawList, fold: Fold) -> Result<LitList, Fault>
+        ensures list { IfOk result (λ list. list ≡ record { folding = fold; texts = normal_form fold raw.now }) }
+        ensures form { IfOk result (λ list. IsNormalForm fold raw.now list.texts) }
+        ensures few { IfOk result (λ list. length list.texts ≤ MAX_LITERALS) }
+        ensures refused { IfErr result (λ fault. fault ≡ OutOfMemory) }
+    {
+        let literals = in_order(alloc, distinct(alloc, raw, fold)?)?;
+        Ok(LitList { fold, literals })
+    }
+
+    /// As `normal_form`, with the place in the list of each raw pattern, and whether one is null. It takes a third longer.
     pub fn normal(alloc: Global, raw: &RawList, fold: Fold) -> Result<(LitList, Normal), Fault>
         ensures list { IfOk result (λ found. found.0 ≡ record { folding = fold; texts = normal_form fold raw.now }) }
         ensures form { IfOk result (λ found. IsNormalForm fold raw.now found.0.texts) }
@@ -49,7 +60,7 @@ impl LitList {
         let literals = in_order(alloc, distinct(alloc, raw, fold)?)?;
         let place_of = places(alloc, raw, fold, literals.as_slice())?;
         let list = LitList { fold, literals };
-        let has_empty = has_null(raw);
+        let has_empty = raw.has_null();
         Ok((
             list,
             Normal {

@@ -1,5 +1,5 @@
 //! How a normal form is made of patterns.
-ghost use Rattle.std.specs.Prelude.{◌≡◌, ◌≢◌, ◌≤◌, ◌<◌, ◌↔◌, ◌⊎◌, [], length, IsTrue, IfOk, IfErr, Contains};
+ghost use Rattle.std.specs.Prelude.{◌≡◌, ◌≢◌, ◌≤◌, ◌<◌, ◌⊎◌, [], length, IfOk, IfErr, Contains};
 ghost use Rattle.std.specs.List.{AllZip};
 ghost use Rattle.std.specs.List.Sorted.{IsStrictlySortedBy};
 ghost use Rattle.lit_base.specs.Folding.{folded_text};
@@ -46,18 +46,6 @@ pub(crate) fn in_order(
         list.push(literal)?;
     }
     Ok(list)
-}
-
-/// Whether a pattern is null.
-pub(crate) fn has_null(raw: &RawList) -> bool
-    ensures { IsTrue result ↔ Contains raw.now [] }
-{
-    for place in 0..raw.len() {
-        if raw.get(place).is_empty() {
-            return true;
-        }
-    }
-    false
 }
 
 /// Where each pattern stands among the literals.

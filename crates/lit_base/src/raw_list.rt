@@ -1,5 +1,5 @@
 //! Patterns as they are given, within the limits.
-ghost use Rattle.std.specs.Prelude.{◌≡◌, ◌≢◌, ℕ, ◌+◌, ◌<◌, ◌≤◌, ◌++◌, ◌∷◌, [], length, map, sum_by, take, slice_index_or, IfOk, OnOk, OnErr, MatchResult, IsTrue, ◌↔◌};
+ghost use Rattle.std.specs.Prelude.{◌≡◌, ◌≢◌, ℕ, ◌+◌, ◌<◌, ◌≤◌, ◌++◌, ◌∷◌, [], length, map, sum_by, take, slice_index_or, Contains, IfOk, OnOk, OnErr, MatchResult, IsTrue, ◌↔◌};
 ghost use Rattle.lit_base.specs.Faults.{RefusedBy};
 ghost use Rattle.lit_base.specs.Lines.{pieces, lines};
 ghost use Rattle.lit_base.specs.RawLists.{pattern_refusal, first_refusal, text_refusal, IsWithinLimits};
@@ -55,6 +55,18 @@ impl RawList {
         ensures { IsTrue result ↔ (self.now ≡ []) }
     {
         self.patterns.is_empty()
+    }
+
+    /// Whether a pattern is null.
+    pub fn has_null(&self) -> bool
+        ensures { IsTrue result ↔ Contains self.now [] }
+    {
+        for place in 0..self.len() {
+            if self.get(place).is_empty() {
+                return true;
+            }
+        }
+        false
     }
 
     /// The patterns as literals, as they are.

@@ -23,7 +23,7 @@ pub(crate) fn planned(
     ensures fault { IsOkUnless result OutOfMemory }
 {
     let raw = raw_of(alloc, literals)?;
-    let Ok((list, _)) = LitList::normal(alloc, &raw, fold) else {
+    let Ok(list) = LitList::normal_form(alloc, &raw, fold) else {
         return Err(Fault::OutOfMemory);
     };
     compiled(alloc, list, profile)

@@ -5,5 +5,5 @@ use Rattle.grep_run.proofs.compiled_patterns.CompiledPatterns.new.Goals as goal
 
 pub invariant_of-result : goal.invariant_of-result
 invariant_of-result c =
-    let stands : StandsFor c.args.fold c.args.patterns.now c.in_ok-plan.plan c.in_ok-list.normal.has_empty = search rules in
-    record { apart = c.standing_law.ensures.apart c.args.fold c.args.patterns.now c.in_ok-plan.plan c.in_ok-list.normal.has_empty stands c.requires }
+    let stands : StandsFor c.args.fold c.args.patterns.now c.in_ok-plan.plan c.has_null-has_empty.result = search rules in
+    record { apart = c.standing_law.ensures.apart c.args.fold c.args.patterns.now c.in_ok-plan.plan c.has_null-has_empty.result stands c.requires }
