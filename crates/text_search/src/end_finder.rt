@@ -6,8 +6,8 @@ use crate::hit_search::{HitSearch, PrefilterSearch};
 use crate::prices::{cost_by_automaton, cost_by_prefilter, cost_of_dense_ends};
 use crate::sampling::Sample;
 use crate::strategy::{
-    Engine, Step, Strategy, Wanted, has_factors, has_use, least_gathered, sample_len, span_after,
-    wants_automaton, wants_automaton_first, wants_shift_or,
+    Engine, Estimates, Step, Strategy, Wanted, has_factors, has_use, least_gathered, sample_len,
+    span_after, wants_automaton, wants_automaton_first, wants_shift_or,
 };
 use crate::text_search::{TextSearch, next_of};
 use factor_search::{FactorEnds, Factors};
@@ -240,7 +240,11 @@ impl EndFinder {
         } else {
             usize::MAX
         };
-        self.strategy.choose(by_factors, by_shift_or, by_automaton);
+        self.strategy.choose(Estimates {
+            factors: by_factors,
+            shift_or: by_shift_or,
+            automaton: by_automaton,
+        });
     }
 
     /// Chooses factors by a sample. Returns the estimate of a search by them; `usize::MAX` if there are none.

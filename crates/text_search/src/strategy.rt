@@ -116,15 +116,25 @@ fn allowed_for(cost: usize) -> usize {
     cost.saturating_add(cost / 2).saturating_add(TUNED_SLACK)
 }
 
-/// The engine with the lowest of three estimates, and this estimate.
-fn best_of(by_factors: usize, by_shift_or: usize, by_automaton: usize) -> (Engine, usize) {
-    let least = by_factors.min(by_shift_or);
-    if by_automaton < least {
-        (Engine::Automaton, by_automaton)
-    } else if by_shift_or < by_factors {
-        (Engine::ShiftOr, by_shift_or)
-    } else {
-        (Engine::Factors, by_factors)
+/// The estimates of the tuned engines, in tenths of a nanosecond for 1,024 bytes; `usize::MAX` for an engine that was not
+/// prepared.
+#[derive(Clone, Copy, Debug)]
+pub(crate) struct Estimates {
+    pub factors: usize,
+    pub shift_or: usize,
+    pub automaton: usize,
+}
+
+impl Estimates {
+    /// The engine with the lowest estimate, and this estimate. Of equal ones factors come first, then shift-or.
+    fn best(self) -> (Engine, usize) {
+        if self.automaton < self.factors.min(self.shift_or) {
+            (Engine::Automaton, self.automaton)
+        } else if self.shift_or < self.factors {
+            (Engine::ShiftOr, self.shift_or)
+        } else {
+            (Engine::Factors, self.factors)
+        }
     }
 }
 
@@ -245,11 +255,10 @@ impl Strategy {
         };
     }
 
-    /// Takes the three estimates for 1,024 bytes, and changes to the engine with the lowest, unless the prefilter is in
-    /// use and this is not clearly better. An engine that was not prepared has the estimate `usize::MAX`. The
+    /// Changes to the engine with the lowest estimate, unless the prefilter is in use and this is not clearly better. The
     /// measurement begins anew.
-    pub fn choose(&mut self, by_factors: usize, by_shift_or: usize, by_automaton: usize) {
-        let (engine, cost) = best_of(by_factors, by_shift_or, by_automaton);
+    pub fn choose(&mut self, estimates: Estimates) {
+        let (engine, cost) = estimates.best();
         let allowed = allowed_for(cost);
         let is_better = self.is_better(cost, allowed);
         self.most_lost = if is_better {

@@ -1,10 +1,19 @@
 //! The engine that a tuned search uses next.
 use crate::prices::{cost_by_automaton, cost_by_prefilter, cost_of_dense_ends};
-use crate::strategy::{Engine, Strategy};
+use crate::strategy::{Engine, Estimates, Strategy};
 use text_ends::EndRate;
 
 /// Bytes of a search between two choices.
 const BYTES: usize = 65536;
+
+/// These estimates.
+fn estimates(factors: usize, shift_or: usize, automaton: usize) -> Estimates {
+    Estimates {
+        factors,
+        shift_or,
+        automaton,
+    }
+}
 
 /// A tuned search with these estimates for factors and shift-or, after the plan took far more.
 fn promised(by_factors: usize, by_shift_or: usize) -> Strategy {
@@ -15,7 +24,7 @@ fn promised(by_factors: usize, by_shift_or: usize) -> Strategy {
 fn promised_three(by_factors: usize, by_shift_or: usize, by_automaton: usize) -> Strategy {
     let mut strategy = Strategy::new();
     strategy.note(BYTES, 1 << 30, EndRate::nothing());
-    strategy.choose(by_factors, by_shift_or, by_automaton);
+    strategy.choose(estimates(by_factors, by_shift_or, by_automaton));
     strategy
 }
 
@@ -50,7 +59,7 @@ fn goes_by_what_promises_less(rt: HostRuntime) {
 fn keeps_its_engine_until_it_tunes_again(rt: HostRuntime) {
     let mut strategy = after(promised(8_000, 9_000), 240_000);
     assert_eq!(rt; strategy.engine(), Engine::Factors);
-    strategy.choose(100_000, 9_000, usize::MAX);
+    strategy.choose(estimates(100_000, 9_000, usize::MAX));
     assert_eq!(rt; strategy.engine(), Engine::ShiftOr);
 }
 
