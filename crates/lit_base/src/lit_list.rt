@@ -11,7 +11,7 @@ ghost use Rattle.lit_base.specs.declared.limits.TheConstants.{MAX_LITERALS};
 use crate::fault::Fault;
 use crate::fold::{Fold, equals_folded};
 use crate::literal::Literal;
-use crate::normal_form::{distinct, in_order, places};
+use crate::normal_form::{literals_of, places};
 use crate::raw_list::RawList;
 use std::alloc::Global;
 use std::marker::Model;
@@ -44,7 +44,7 @@ impl LitList {
         ensures few { IfOk result (λ list. length list.texts ≤ MAX_LITERALS) }
         ensures refused { IfErr result (λ fault. fault ≡ OutOfMemory) }
     {
-        let literals = in_order(alloc, distinct(alloc, raw, fold)?)?;
+        let literals = literals_of(alloc, raw, fold)?;
         Ok(LitList { fold, literals })
     }
 
@@ -57,7 +57,7 @@ impl LitList {
         ensures empty { IfOk result (λ found. IsTrue found.1.has_empty ↔ Contains raw.now []) }
         ensures refused { IfErr result (λ fault. fault ≡ OutOfMemory) }
     {
-        let literals = in_order(alloc, distinct(alloc, raw, fold)?)?;
+        let literals = literals_of(alloc, raw, fold)?;
         let place_of = places(alloc, raw, fold, literals.as_slice())?;
         let list = LitList { fold, literals };
         let has_empty = raw.has_null();

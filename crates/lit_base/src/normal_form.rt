@@ -14,12 +14,21 @@ use crate::raw_list::RawList;
 use std::alloc::{AllocError, Global};
 use std::collections::BTreeSet;
 
-/// The nonempty patterns, folded, each once, in their order.
-pub(crate) fn distinct(
+/// The literals of the normal form.
+pub(crate) fn literals_of(
     alloc: Global,
     raw: &RawList,
     fold: Fold,
-) -> Result<BTreeSet<Literal>, AllocError>
+) -> Result<Vec<Literal>, AllocError>
+    ensures form { IfOk result (λ list. list.items ≡ normal_form fold raw.now) }
+    ensures few { IfOk result (λ list. length list.items ≤ MAX_LITERALS) }
+    ensures limits { IsWithinLimits raw.now }
+{
+    in_order(alloc, distinct(alloc, raw, fold)?)
+}
+
+/// The nonempty patterns, folded, each once, in their order.
+fn distinct(alloc: Global, raw: &RawList, fold: Fold) -> Result<BTreeSet<Literal>, AllocError>
     ensures keys { IfOk result (λ set. set.keys ≡ normal_form fold raw.now) }
     ensures few { IfOk result (λ set. length set.keys ≤ MAX_LITERALS) }
     ensures limits { IsWithinLimits raw.now }
@@ -35,10 +44,7 @@ pub(crate) fn distinct(
 }
 
 /// The literals as a list.
-pub(crate) fn in_order(
-    alloc: Global,
-    literals: BTreeSet<Literal>,
-) -> Result<Vec<Literal>, AllocError>
+fn in_order(alloc: Global, literals: BTreeSet<Literal>) -> Result<Vec<Literal>, AllocError>
     ensures { IfOk result (λ list. list.items ≡ literals.keys) }
 {
     let mut list = Vec::with_capacity(alloc, literals.len())?;
