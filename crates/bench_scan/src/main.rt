@@ -1,7 +1,7 @@
-//! How long a scan takes: `bench_scan TEXT LITERALS all|tuned|stream|tuned-stream|WORKERS TURNS [8|16]` reads both files
-//! and prints the median seconds of a scan and the number of hits. A number of workers from 1 to 16 share the text. A
-//! stream comes in pieces of 64 KiB, or as `stream:1000` in pieces of so many bytes. The plan has eight buckets unless the
-//! last word is 16. It prints nothing without arguments; `bench/README.md` says what it is measured beside.
+//! How long a scan takes: `bench_scan TEXT LITERALS all|tuned|stream|tuned-stream|WORKERS TURNS [8|16]` reads both
+//! files and prints the median seconds of a scan and the number of hits. A number of workers from 1 to 16 share the
+//! text. A stream comes in pieces of 64 KiB, or as `stream:1000` in pieces of so many bytes. The plan has eight buckets
+//! unless the last word is 16. It prints nothing without arguments; `bench/README.md` says what it is measured beside.
 #![tactic(auto)]
 
 use anyhow::{Result, bail, ensure};

@@ -39,8 +39,8 @@ impl<'a, R: std::rt::Files, S: Read + Copy + Drop> SystemFiles<'a, R, S> {
         }
     }
 
-    /// The files of the system, except a regular file that is also standard output: a run that copies this file into itself
-    /// never ends. Its names are missing, for reading. Standard input is read whatever it is.
+    /// The files of the system, except a regular file that is also standard output: a run that copies this file into
+    /// itself never ends. Its names are missing, for reading. Standard input is read whatever it is.
     pub fn without_output(self) -> SystemFiles<'a, R, S> {
         SystemFiles {
             output: regular_id(fs::metadata(self.rt, OUTPUT)),

@@ -2,7 +2,8 @@
 --     two, words_out, words_in     the words of a struct that keeps both, taken out and put back
 --     boxed                a box by value is one machine value, of the box's type
 --     tested, null_no      the address of a block of the heap may be compared with null, and it differs from null
---     Tokens, Covered      what a function over a box has beside its arguments: a token of each lifetime, and that a token covers all that the type names
+--     Tokens, Covered      what a function over a box has beside its arguments: a token of each lifetime, and that a
+--                          token covers all that the type names
 --     Opening, opens       a call of `Box::into_raw_with_allocator`: what it gives, as a block
 --     Closing, closes      a call of `Box::from_raw`: what it asks for.        closed     what it gives
 use mathlib.Core.Path.{◌≡◌, refl, ap, ◌∙◌}

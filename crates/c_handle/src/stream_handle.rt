@@ -10,7 +10,8 @@ use std::marker::Model;
 use std::mem::replace;
 use std::ptr::null_mut;
 
-/// A variable of a C program that owns a stream, or is null. In C it is a struct with one pointer, and all zero where it is null.
+/// A variable of a C program that owns a stream, or is null. In C it is a struct with one pointer, and all zero where
+/// it is null.
 #[repr(C)]
 pub struct StreamHandle {
     at: *mut u8,

@@ -17,7 +17,8 @@ pub record Factored : Type 0 where
 abbrev pub offset_at : Factored → ℕ → ℕ
 offset_at w place = slice_index w.offsets place
 
--- the factor of the literal at a place, by its offset, lies within the literal, and within the reach of a byte of hash bits
+-- the factor of the literal at a place, by its offset, lies within the literal, and within the reach of a byte of hash
+-- bits
 pub record IsFactor (l : Literals) (place offset : ℕ) : Type 0 where
   pub near : offset < 8
   pub within : offset < length (literal_at l place)
@@ -27,7 +28,8 @@ pub record IsFactor (l : Literals) (place offset : ℕ) : Type 0 where
 abbrev pub AreWithin : Factored → Type 0
 AreWithin w = (place : ℕ) → place < length w.literals.texts → IsFactor w.literals place (offset_at w place)
 
--- the hash bits at a position include the end of each literal whose factor ends there; the bit is the distance to the end
+-- the hash bits at a position include the end of each literal whose factor ends there; the bit is the distance to the
+-- end
 abbrev pub AreHashBits : Factored → List ℕ → ℕ → ℕ → Type 0
 AreHashBits w text at hash_bits = (place : ℕ) → Occurs w.literals text place (at + offset_at w place) → bit_at hash_bits (offset_at w place) ≡ 1
 

@@ -14,8 +14,8 @@ const OFFSETS: usize = 8;
 /// The masks see this many bytes of a factor.
 const MASKED: usize = 3;
 
-/// How often three bytes in a row occurred in samples of texts. Each new sample halves the older counts. There is room for
-/// all counts from the start, but they are written only with the first sample.
+/// How often three bytes in a row occurred in samples of texts. Each new sample halves the older counts. There is room
+/// for all counts from the start, but they are written only with the first sample.
 #[derive(Debug, Drop)]
 pub(crate) struct Counts {
     pub threes: Vec<u16>,

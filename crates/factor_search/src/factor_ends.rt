@@ -125,7 +125,8 @@ impl Pending {
         None
     }
 
-    /// The pending ends after `from`, of the next block in which there may be some. The block is at `seen` or further on.
+    /// The pending ends after `from`, of the next block in which there may be some. The block is at `seen` or further
+    /// on.
     #[inline(always)]
     fn next_block(self, factors: &Factors, text: &[u8], from: usize, tally: &mut Tally) -> Pending
         requires state { ArePending factors.now text.now from self.seen (self.seen + 1) self.hash_bits }

@@ -1,5 +1,5 @@
-//! The prices and thresholds of the search by factors. They change the time of a search, never its result. Prices are in
-//! tenths of a nanosecond.
+//! The prices and thresholds of the search by factors. They change the time of a search, never its result. Prices are
+//! in tenths of a nanosecond.
 
 // Prices.
 

@@ -93,8 +93,8 @@ fn prefilter_of(list: &LitList) -> Prefilter {
     }
 }
 
-/// A test of an end, unfiltered: by the filter number of the three bytes before it, by its last byte being one of two, or
-/// by each of the three being one of two.
+/// A test of an end, unfiltered: by the filter number of the three bytes before it, by its last byte being one of two,
+/// or by each of the three being one of two.
 #[derive(Clone, Copy)]
 enum PlainTest {
     Filter(Masks),

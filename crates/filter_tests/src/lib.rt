@@ -1,5 +1,5 @@
-//! Tests of the filter and of the engines under a scan. They make public calls. A crate with tests is proved twice, with
-//! them and without, so these stand in a crate of their own; it waits for no crate that scans.
+//! Tests of the filter and of the engines under a scan. They make public calls. A crate with tests is proved twice,
+//! with them and without, so these stand in a crate of their own; it waits for no crate that scans.
 #![tactic(auto)]
 
 #[cfg(test)]

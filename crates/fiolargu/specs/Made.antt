@@ -16,7 +16,8 @@ use Rattle.fiolargu.specs.declared.views.PlanInfo.{PlanInfo}
 abbrev pub bytes_of : List Bytes → List (List ℕ)
 bytes_of patterns = map (λ p. p.bytes.now) patterns
 
--- a plan of the patterns by the flags: its literals are their normal form, it is the planner's, and no grouping costs less
+-- a plan of the patterns by the flags: its literals are their normal form, it is the planner's, and no grouping costs
+-- less
 pub record IsPlanOf (flags : ℕ) (patterns : List (List ℕ)) (p : Plan) : Type 0 where
   pub literals : p.literals ≡ record { folding = fold_of flags; texts = normal_form (fold_of flags) patterns }
   pub planned : IsPlanned p.literals (profile_of flags) p.certificate

@@ -1,5 +1,5 @@
-//! The library for C programs: each export calls the proved libraries and states their clauses again. `fiolargu.h` describes
-//! the exports to C programmers, with the rules that a caller keeps.
+//! The library for C programs: each export calls the proved libraries and states their clauses again. `fiolargu.h`
+//! describes the exports to C programmers, with the rules that a caller keeps.
 //!
 //! A status is a number of the refusals of all crates, or 0. No export has a `requires`.
 #![tactic(auto)]

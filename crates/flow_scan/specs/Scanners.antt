@@ -22,7 +22,8 @@ started plan base = record { plan = plan; base = base; place = base; tail = [] }
 abbrev pub fed : Scanning → List ℕ → Scanning
 fed s piece = record s { place = s.place + length piece; tail = tail_after s.plan.literals s.tail piece }
 
--- a piece may be refused: exactly if the position would pass 2^64 - 1 with the whole piece, and for want of memory, but only if a literal ends in it. The scan and the hits are then unchanged
+-- a piece may be refused: exactly if the position would pass 2^64 - 1 with the whole piece, and for want of memory, but
+-- only if a literal ends in it. The scan and the hits are then unchanged
 pub record MayRefuse {T : Type 0} (old new : Scanning) (piece : List ℕ) (before after : List (ℕ × ℕ)) (result : Result T Fault) : Type 0 where
   pub too_long : IsErrOf result StreamTooLong ↔ (2 ^ 64 ≤ old.place + length piece)
   pub faults : IfErr result (λ fault. (fault ≡ StreamTooLong) ⊎ (fault ≡ OutOfMemory))
@@ -30,7 +31,8 @@ pub record MayRefuse {T : Type 0} (old new : Scanning) (piece : List ℕ) (befor
   pub same_hits : OnErr result (after ≡ before)
   pub quiet : NoEndAfter old.plan.literals (old.tail ++ piece) (length old.tail) → IsOkUnless result StreamTooLong
 
--- a piece is fed up to the first end by which a list of hits gained `most`, or whole: as many bytes of it as the result says
+-- a piece is fed up to the first end by which a list of hits gained `most`, or whole: as many bytes of it as the result
+-- says
 pub record FeedsUpTo (old new : Scanning) (piece : List ℕ) (most : ℕ) (before after : List (ℕ × ℕ)) (result : Result ℕ Fault) : Type 0 where
   pub ok : IfOk result (λ count. new ≡ fed old (take count piece))
   pub hits : IfOk result (λ count. StopsIn old.plan.literals old.tail piece old.place most count before after)

@@ -30,7 +30,9 @@ AreSteps l tail at (piece ∷ pieces) hits =
 abbrev pub GainsHits : Literals → List ℕ → List ℕ → ℕ → List (ℕ × ℕ) → List (ℕ × ℕ) → Type 0
 GainsHits l tail piece at = GainsHitsAfter l (tail ++ piece) (length tail) at
 
--- a search through the first `count` bytes of a piece after a tail: a list of hits has gained those up to there. It stopped before the piece's end only after it had gained `most`, or one where `most` is 0. It stopped at the first such position: the hits from the `most`th on end there
+-- a search through the first `count` bytes of a piece after a tail: a list of hits has gained those up to there. It
+-- stopped before the piece's end only after it had gained `most`, or one where `most` is 0. It stopped at the first
+-- such position: the hits from the `most`th on end there
 pub record StopsIn (l : Literals) (tail piece : List ℕ) (at most count : ℕ) (old new : List (ℕ × ℕ)) : Type 0 where
   pub within : count ≤ length piece
   pub gained : GainsHits l tail (take count piece) at old new

@@ -120,8 +120,8 @@ impl Progress {
 }
 
 /// Adds the hits that end in a piece, up to the first end by which `out` gained at least `most` hits. It searches the
-/// offered bytes of the piece at the boundary, after the tail, and then the rest in place. Returns how many bytes of the
-/// piece lie up to this end, or its length. When memory is refused, `out` is unchanged.
+/// offered bytes of the piece at the boundary, after the tail, and then the rest in place. Returns how many bytes of
+/// the piece lie up to this end, or its length. When memory is refused, `out` is unchanged.
 fn add_piece<S: HitSearch>(
     search: &mut S,
     compiled: &Compiled,

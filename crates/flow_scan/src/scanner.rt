@@ -69,8 +69,8 @@ impl<'p> Scanner<'p> {
     /// it. Adds the hits that end in the fed bytes, and returns how many bytes were fed. So `out` gains at most `most`
     /// hits and one for each literal.
     ///
-    /// The search has the scan's plan: it is `PrefilterSearch`, or a finder that tunes itself to the pieces and may serve
-    /// any number of scans by this plan. The hits do not depend on it.
+    /// The search has the scan's plan: it is `PrefilterSearch`, or a finder that tunes itself to the pieces and may
+    /// serve any number of scans by this plan. The hits do not depend on it.
     ///
     /// Refusals as for `feed`, for the whole piece. Once a piece is not too long, no rest of it is.
     pub fn feed_until<S: HitSearch>(

@@ -31,8 +31,8 @@ pub fn scan_all(alloc: Global, compiled: &Compiled, text: &[u8]) -> Result<Vec<H
 }
 
 /// The hits of a text that end after `from`, in order. Together with the hits of the first `from` bytes they are the
-/// hits of the text. They do not depend on the search: `PrefilterSearch`, or a finder, which tunes itself on the way. The
-/// only refusal is `OutOfMemory`.
+/// hits of the text. They do not depend on the search: `PrefilterSearch`, or a finder, which tunes itself on the way.
+/// The only refusal is `OutOfMemory`.
 pub fn scan_after<S: HitSearch>(
     search: &mut S,
     alloc: Global,
@@ -57,8 +57,8 @@ pub fn scan_after<S: HitSearch>(
 }
 
 /// Adds to `out` the hits of a text that end after `from`, up to the first end by which `out` gained at least `most`
-/// hits (0 counts as 1). Returns this end, or the text's length. A scan from there continues with the next hit. So `out` gains at most
-/// `most` hits and one for each literal. They do not depend on the search.
+/// hits (0 counts as 1). Returns this end, or the text's length. A scan from there continues with the next hit. So
+/// `out` gains at most `most` hits and one for each literal. They do not depend on the search.
 ///
 /// The only refusal is `OutOfMemory`, which comes only if a literal ends after `from`. It leaves `out` unchanged.
 pub fn scan_until<S: HitSearch>(
@@ -79,8 +79,8 @@ pub fn scan_until<S: HitSearch>(
 }
 
 /// The guarantees of a plan and its scan, on one call that feeds a scanner any pieces. No assignment of the literals to
-/// at most as many buckets as its profile has costs less than the plan's certificate says. The returned hits are exactly
-/// the literals and ends that occur in the joined pieces, each once and in order.
+/// at most as many buckets as its profile has costs less than the plan's certificate says. The returned hits are
+/// exactly the literals and ends that occur in the joined pieces, each once and in order.
 ///
 /// Refusals: `StreamTooLong` if the pieces together have 2^64 bytes or more, and `OutOfMemory`.
 pub fn scan_pieces(

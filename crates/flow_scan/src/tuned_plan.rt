@@ -58,8 +58,8 @@ impl TunedPlan {
         Ok(Arc::try_clone(&self.plan)?)
     }
 
-    /// Adds to `out` the hits of a text that end after `from`, as `scan_until` does. It tunes itself to the texts; the hits
-    /// do not depend on this. Without memory for a finder it goes on by the plan alone.
+    /// Adds to `out` the hits of a text that end after `from`, as `scan_until` does. It tunes itself to the texts; the
+    /// hits do not depend on this. Without memory for a finder it goes on by the plan alone.
     pub fn scan_until(
         &mut self,
         alloc: Global,

@@ -1,4 +1,5 @@
--- What one input gives: its block of output, its message, whether a line is selected, and whether it is an error. POSIX.1-2017 `grep`, OPTIONS, STDOUT, CONSEQUENCES OF ERRORS.
+-- What one input gives: its block of output, its message, whether a line is selected, and whether it is an error.
+-- POSIX.1-2017 `grep`, OPTIONS, STDOUT, CONSEQUENCES OF ERRORS.
 use Rattle.std.specs.Prelude.{ℕ, ◌&&◌, ◌||◌, not, Bool, true, List, [], ◌++◌, length, flat_map, nat_lt, if◌then◌else◌, Option, Some, None, codes, decimal}
 use Rattle.byte_io.specs.Sources.{Content}
 use Rattle.lit_base.specs.Lines.{ended_lines, lines}
@@ -34,7 +35,8 @@ abbrev pub written_line : GrepOptions → List ℕ → ℕ × List ℕ → List 
 written_line o name numbered =
     prefix_of o name ++ ((if o.number then decimal numbered.0 ++ codes ":" else []) ++ (numbered.1 ++ codes "\n"))
 
--- the block of selected lines: under -q none, else under -l the name if there is one, else under -c their number, else the lines
+-- the block of selected lines: under -q none, else under -l the name if there is one, else under -c their number, else
+-- the lines
 abbrev pub block_of : GrepOptions → List ℕ → List (ℕ × List ℕ) → List ℕ
 block_of o name selected =
     if o.quiet then []

@@ -1,4 +1,5 @@
--- What grep writes and answers, for options and sources. POSIX.1-2017 `grep`: STDOUT, STDERR, EXIT STATUS and CONSEQUENCES OF ERRORS.
+-- What grep writes and answers, for options and sources. POSIX.1-2017 `grep`: STDOUT, STDERR, EXIT STATUS and
+-- CONSEQUENCES OF ERRORS.
 use Rattle.std.specs.Prelude.{ℕ, ◌&&◌, Bool, true, false, List, [], ◌∷◌, ◌++◌, map, flat_map, if◌then◌else◌, Option, Some, None}
 use Rattle.byte_io.specs.Sources.{Ask, Sources, after_all}
 use Rattle.std.specs.List.{list_any}
@@ -17,7 +18,8 @@ pub record Answer : Type 0 where
   pub has_selected : Bool
   pub has_error : Bool
 
--- under -q 0 where a line was selected, whatever the errors; else 2 at an error, else 0 where a line was selected and 1 where none was
+-- under -q 0 where a line was selected, whatever the errors; else 2 at an error, else 0 where a line was selected and 1
+-- where none was
 abbrev pub status_where : Bool → Bool → Bool → Status
 status_where quiet has_selected has_error =
     if quiet && has_selected then Selected

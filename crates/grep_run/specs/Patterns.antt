@@ -1,4 +1,5 @@
--- The patterns of pattern lists and pattern files, and why they are refused. POSIX.1-2017 `grep`, OPTIONS, -e and -f, and OPERANDS, pattern_list.
+-- The patterns of pattern lists and pattern files, and why they are refused. POSIX.1-2017 `grep`, OPTIONS, -e and -f,
+-- and OPERANDS, pattern_list.
 use Rattle.std.specs.Prelude.{◌≡◌, ◌≢◌, ℕ, List, [], ◌∷◌, ◌++◌, length, flat_map, nat_lt, if◌then◌else◌, is_some, Option, Some, None, Result, MatchResult}
 use Rattle.std.specs.Option.{option_map}
 use Rattle.byte_io.specs.Sources.{Content, Sources}

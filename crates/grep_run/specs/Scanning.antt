@@ -52,14 +52,16 @@ pub record IsHalted (o : GrepOptions) (name : List ℕ) (selected : List (ℕ ×
   pub written : Writes before out []
   pub empty : b.text.items ≡ []
 
--- picker and block stand after the text; lines are numbered if numbers are written, and their bytes are seen if lines are
+-- picker and block stand after the text; lines are numbered if numbers are written, and their bytes are seen if lines
+-- are
 pub record StandsAfter (o : GrepOptions) (test : List ℕ → Bool) (name text : List ℕ) (p : Picking) (b : Block) (before out : Writer) : Type 0 where
   pub fed : HasFed test text p
   pub numbers : p.is_numbered ≡ o.number
   pub seen : p.has_bytes ≡ are_shown o
   pub taken : HasTaken o name (ended_in test text) b before out
 
--- a piece was fed after a text: picker and block stand after both; no line is wanted any more; there are too many bytes; or it was cut
+-- a piece was fed after a text: picker and block stand after both; no line is wanted any more; there are too many
+-- bytes; or it was cut
 abbrev pub FeedsPiece : GrepOptions → (List ℕ → Bool) → List ℕ → List ℕ → List ℕ → Result (Option End) Halt → Picking → Block → Writer → Writer → Type 0
 FeedsPiece o test name text piece (Ok None) p b before out = StandsAfter o test name (text ++ piece) p b before out
 FeedsPiece o test name text piece (Ok (Some Clean)) p b before out = IsHalted o name (ended_in test (text ++ piece)) b before out

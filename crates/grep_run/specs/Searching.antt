@@ -40,8 +40,9 @@ pub record AreSearched (a : Answer) (found : Found) (out_old out_new err_old err
   pub selected : found.is_selected ≡ a.has_selected
   pub error : found.is_error ≡ a.has_error
 
--- it stopped: all of the inputs before the last one that was asked for is written, of that one prefixes, and nothing more is asked for; where none was asked for, nothing is written.
--- Where the output failed, there is no message on the last one
+-- it stopped: all of the inputs before the last one that was asked for is written, of that one prefixes, and nothing
+-- more is asked for; where none was asked for, nothing is written. Where the output failed, there is no message on the
+-- last one
 pub record StopsAt (o : GrepOptions) (test : List ℕ → Bool) (inputs : List Input) (s left : Sources) (out_old out_new err_old err_new : Writer) : Type 0 where
   pub done : List Input
   pub last : List Input

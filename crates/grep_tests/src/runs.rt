@@ -62,8 +62,8 @@ fn is_starved(messages: &[u8], wanted: &[u8]) -> bool {
 /// these operands alone.
 type Ran = (Status, bool, bool, bool);
 
-/// Searches operands for `a`. `OutOfMemory` where the last message is on want of memory, and all before it is a prefix of
-/// what is wanted.
+/// Searches operands for `a`. `OutOfMemory` where the last message is on want of memory, and all before it is a prefix
+/// of what is wanted.
 fn ran<R: Abort + AllocGlobal>(
     rt: &R,
     flags: &str,

@@ -20,7 +20,8 @@ bare-numbered test a b (line ∷ lines) =
       | false ↦ rest
     ]
 
--- where a line that is taken by one way is taken by another, whatever its number there, lines are emitted by the other way under other numbers
+-- where a line that is taken by one way is taken by another, whatever its number there, lines are emitted by the other
+-- way under other numbers
 pub Emitted-renumbered : {S : Type 0} {takes others : S → ℕ → List ℕ → Result Next Fault → S → Type 0} (P : S → Type 0)
     → ((s t : S) (n m : ℕ) (line : List ℕ) (answer : Result Next Fault) → P s → takes s n line answer t → others s m line answer t × P t)
     → {s t : S} {lines : List (ℕ × List ℕ)} {answer : Result Next Fault} (under : List (ℕ × List ℕ)) → bare lines ≡ bare under → P s → Emitted takes s lines answer t → Emitted others s under answer t

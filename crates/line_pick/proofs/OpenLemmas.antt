@@ -163,7 +163,8 @@ module _ (l : Literals) (normal : IsNormal l) (longest : ℕ) (bound : All (λ l
           some = λ more. omega (arith, some, more);
         }))
 
--- a prefix of a line that is longer than `most` bytes, or the line itself, is a part that decides it where the test says the same after it
+-- a prefix of a line that is longer than `most` bytes, or the line itself, is a part that decides it where the test
+-- says the same after it
 pub prefix-part : (test : List ℕ → Bool) (longest most : ℕ) (line : List ℕ) (start end : ℕ) → ((more : List ℕ) → test (take end line ++ more) ≡ test (line ++ more))
     → start ≡ 0 → end ≡ min (length line) (most + 1) → most ≤ longest → IsDecidingPart test longest line start end
 prefix-part test longest most line start end same low is few =

@@ -58,7 +58,8 @@ pub record IsByPlan (s : LineSearch) : Type 0 where
   pub apart : AreInLines (option_copied s.matcher.plan)
   pub serves : IfSome s.finder (λ list. list_of (option_copied s.matcher.plan) ≡ Some list)
 
--- a plan and a null pattern stand for raw patterns under a fold: the literals are their normal form, and the null pattern is there if one of them is null
+-- a plan and a null pattern stand for raw patterns under a fold: the literals are their normal form, and the null
+-- pattern is there if one of them is null
 pub record StandsFor (folding : Fold) (raw : List (List ℕ)) (plan : Option Plan) (has_empty : Bool) : Type 0 where
   pub form : IsNormalForm folding raw (literals_of plan)
   pub fold : IfSome plan (λ p. p.literals.folding ≡ folding)

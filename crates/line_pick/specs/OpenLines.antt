@@ -12,7 +12,8 @@ abbrev pub longest_in : Option Plan → ℕ
 longest_in None = 0
 longest_in (Some plan) = longest_of plan.literals
 
--- a text decides an open line: however the line goes on, the test says the same after the text. It has no more bytes, and some where the line has some
+-- a text decides an open line: however the line goes on, the test says the same after the text. It has no more bytes,
+-- and some where the line has some
 pub record Decides (test : List ℕ → Bool) (kept line : List ℕ) : Type 0 where
   pub same : (more : List ℕ) → test (kept ++ more) ≡ test (line ++ more)
   pub one : IsOnePiece kept

@@ -1,4 +1,5 @@
--- What a contract sees of a `Picker`: its patterns and rule, the line that no newline has ended yet, and how far it has come.
+-- What a contract sees of a `Picker`: its patterns and rule, the line that no newline has ended yet, and how far it has
+-- come.
 use Rattle.std.specs.Prelude.{ℕ, Bool, List, Option, None, Some, Result, Ok, Err}
 use Rattle.lit_plan.specs.Plans.{Plan}
 use Rattle.line_pick.specs.declared.fault.Fault.{Fault}
@@ -8,7 +9,8 @@ use Rattle.line_pick.specs.declared.sink.Next.TheVariants.{More, Stop}
 use Rattle.line_pick.specs.declared.state.State.{State}
 use Rattle.line_pick.specs.declared.state.State.TheVariants.{Running, Stopped, Finished, Failed}
 
--- patterns, a rule, the bytes since the last newline, or what decides them where no bytes are seen, the numbers of ended lines, if lines are numbered, and of bytes so far, and whether the search tunes itself
+-- patterns, a rule, the bytes since the last newline, or what decides them where no bytes are seen, the numbers of
+-- ended lines, if lines are numbered, and of bytes so far, and whether the search tunes itself
 pub record Picking : Type 0 where
   pub plan : Option Plan
   pub has_empty : Bool

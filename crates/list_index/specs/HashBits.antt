@@ -20,7 +20,8 @@ pub record IsKeyBit (bits : ℕ) (key_of bit_of : ℕ → ℕ) (count number bit
   pub hash : number ≡ hash_of bits (key_of place)
   pub is : bit ≡ bit_of place
 
--- a table has a byte for each hash. The byte at the hash of the key of each of the first places has the bit of that place, and there is no other bit
+-- a table has a byte for each hash. The byte at the hash of the key of each of the first places has the bit of that
+-- place, and there is no other bit
 pub record AreKeyBits (bits : ℕ) (key_of bit_of : ℕ → ℕ) (count : ℕ) (table : List ℕ) : Type 0 where
   pub room : length table ≡ 2 ^ bits
   pub has : (place : ℕ) → place < count → HasBit table (hash_of bits (key_of place)) (bit_of place)

@@ -15,7 +15,8 @@ abbrev pub case_bits : Fold → ℕ
 case_bits No = 0
 case_bits Ascii = 2314885530818453536
 
--- the key of some bytes before a position of a text: what they spell, after zeros as eight bytes, without the case of letters
+-- the key of some bytes before a position of a text: what they spell, after zeros as eight bytes, without the case of
+-- letters
 unfoldable pub suffix_key : Fold → List ℕ → ℕ → ℕ → ℕ
 suffix_key fold text end width = bit_or (spelled (replicate (8 - width) 0 ++ slice_range text (end - width) end)) (case_bits fold)
 

@@ -1,4 +1,5 @@
--- The cost of a run: by its first literal it is that by its true shortest, it stays small, and it meets the quadrangle inequality.
+-- The cost of a run: by its first literal it is that by its true shortest, it stays small, and it meets the quadrangle
+-- inequality.
 use Rattle.std.proofs.Common.{◌≡◌, ℕ, suc, ◌+◌, ◌-◌, ◌*◌, ◌^◌, ◌<◌, ◌≤◌, min, List, [], ◌∷◌, length, get_or, take, drop, refl, sym, ap, ◌∙◌, arith}
 use Rattle.std.specs.Prelude.{All}
 use Rattle.std.specs.List.{fold}

@@ -1,4 +1,5 @@
--- What a group of literals that are searched for together costs: the table of weights and the formula are this project's own.
+-- What a group of literals that are searched for together costs: the table of weights and the formula are this
+-- project's own.
 use Rattle.std.specs.Prelude.{◌≡◌, ℕ, ◌+◌, ◌-◌, ◌*◌, ◌^◌, ◌<◌, ◌≤◌, min, List, [], ◌∷◌, length, slice_index, slice_index_or, slice_range, fold}
 
 -- the weight by the shortest length in bytes: 4096 for one byte, falling to 8 from eight bytes on

@@ -7,7 +7,8 @@ use Rattle.std.specs.List.Sorted.{IsStrictlySortedBy}
 use Rattle.lit_base.specs.Folding.{folded_text}
 use Rattle.lit_base.specs.Literals.{Literals}
 
--- the literal at a place of the list ends at a position of the text: the slice of its length that ends there, folded, is the literal
+-- the literal at a place of the list ends at a position of the text: the slice of its length that ends there, folded,
+-- is the literal
 pub record Occurs (l : Literals) (text : List ℕ) (place end : ℕ) : Type 0 where
   pub literal : List ℕ
   pub stands : slice_get l.texts place ≡ Some literal

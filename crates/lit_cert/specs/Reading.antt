@@ -9,7 +9,8 @@ use Rattle.lit_base.specs.Profiles.{buckets}
 use Rattle.lit_base.specs.declared.profile.Profile.{Profile}
 use Rattle.lit_cert.specs.Spelling.{head_lines, lines_of, line_text, row_words, rows_of, IsCount, HasEnds, HasTextFor}
 
--- the text begins with the first k lines of the certificate's text; nothing stands after its last line, if k is past that
+-- the text begins with the first k lines of the certificate's text; nothing stands after its last line, if k is past
+-- that
 pub record Follows (most : ℕ) (text : List ℕ) (k : ℕ) (c : CertificateNumbers) : Type 0 where
   pub has_text : HasTextFor most c
   pub rest : List ℕ

@@ -15,7 +15,8 @@ pub record Plan : Type 0 where
   pub literals : Literals
   pub certificate : CertificateParts
 
--- the invariant of its fields: the certificate holds, the prefilter belongs to its runs, and no occurrence passes it unseen
+-- the invariant of its fields: the certificate holds, the prefilter belongs to its runs, and no occurrence passes it
+-- unseen
 pub record IsCompiled (list : Literals) (certificate : CertificateParts) (prefilter : Prefilter) : Type 0 where
   pub certified : IsCertified list certificate
   pub prefiltered : IsPrefilterOf list certificate.ends prefilter

@@ -1,5 +1,5 @@
--- Entries: where reading one stops, or its certificate fails, it is wrong; one thing is wrong with it, and nothing where a
--- right plan stands.
+-- Entries: where reading one stops, or its certificate fails, it is wrong; one thing is wrong with it, and nothing
+-- where a right plan stands.
 use Rattle.std.proofs.Common.{◌≡◌, ℕ, ◌*◌, ◌≤◌, List, [], ◌∷◌, ◌++◌, length, map, Result, Ok, Err, inl, inr, refl, sym, ap, subst, ◌∙◌, append_assoc, arith}
 use Rattle.std.specs.Int.{w16, w64, to_be_bytes}
 use Rattle.std.proofs.lemmas.List.{length-append}

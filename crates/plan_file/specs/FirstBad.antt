@@ -1,5 +1,5 @@
--- The first bad field of a part: the fields before it begin a part, and with the field that stands there they begin none.
--- A part is a head, the start of an entry, a literal or a certificate.
+-- The first bad field of a part: the fields before it begin a part, and with the field that stands there they begin
+-- none. A part is a head, the start of an entry, a literal or a certificate.
 use Rattle.std.specs.Prelude.{ℕ, ◌*◌, ◌^◌, ◌<◌, ◌≤◌, ◌≡◌, ◌≢◌, List, [], ◌∷◌, ◌++◌, length, map, All, nat_lt, if◌then◌else◌}
 use Rattle.std.specs.List.{flat_map}
 use Rattle.std.specs.Int.{Width, w16, w32, w64, to_be_bytes}

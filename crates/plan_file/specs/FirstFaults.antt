@@ -47,8 +47,8 @@ pub record IsOutOfOrder (fold : Fold) (room : ℕ) (before bytes : List ℕ) (w 
   pub not_after : literal_cmp before text ≢ Less
   pub wrong_is : w ≡ wrong_at Order bytes
 
--- this is wrong with a literal after another one, where there is room for `room` bytes. A letter and the order are asked
--- for once the literal is whole
+-- this is wrong with a literal after another one, where there is room for `room` bytes. A letter and the order are
+-- asked for once the literal is whole
 abbrev pub IsWrongLiteral : Fold → ℕ → List ℕ → List ℕ → Wrong → Type 0
 IsWrongLiteral fold room before bytes w =
     IsFirstBad (FitsLiteral room) literal_fields bytes w ⊎ IsFull room bytes w ⊎ IsUnfolded fold room bytes w ⊎ IsOutOfOrder fold room before bytes w

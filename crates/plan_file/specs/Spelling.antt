@@ -72,8 +72,8 @@ head_text version count = to_be_bytes w32 0x4C504C46 ++ (to_be_bytes w16 (versio
 abbrev pub spelling : Version → List Plan → List ℕ
 spelling version plans = head_text version (length plans) ++ flat_map plan_text plans
 
--- each field of an entry is within its bounds: literals in normal form, no more than the version allows; a profile of the
--- version; at least one end, no more ends than buckets; numbers that fit
+-- each field of an entry is within its bounds: literals in normal form, no more than the version allows; a profile of
+-- the version; at least one end, no more ends than buckets; numbers that fit
 pub record HasFields (version : Version) (p : Plan) : Type 0 where
   pub normal : IsNormal p.literals
   pub some : 1 ≤ length p.literals.texts
@@ -114,8 +114,8 @@ pub record BeginsFile (text : List ℕ) : Type 0 where
 
 -- ---- what bytes begin
 
--- each field of a draft is within its bounds. Whether its letters are folded and its literals in order, how many bytes these
--- have, and whether the certificate holds, is not asked for
+-- each field of a draft is within its bounds. Whether its letters are folded and its literals in order, how many bytes
+-- these have, and whether the certificate holds, is not asked for
 pub record IsDraft (version : Version) (p : Plan) : Type 0 where
   pub texts : All (λ t. (1 ≤ length t) × (length t ≤ MAX_LITERAL_LEN)) p.literals.texts
   pub some : 1 ≤ length p.literals.texts

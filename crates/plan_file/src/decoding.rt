@@ -132,8 +132,8 @@ pub fn decode(alloc: Global, bytes: &[u8]) -> Result<Vec<Compiled>, Fault>
     }
 }
 
-/// The law of first faults. A text has at most one, and none if it is a file. The bytes before it begin a file of drafts.
-/// Unless its cause is `Short`, it is the first fault whatever bytes follow, and the text begins no file.
+/// The law of first faults. A text has at most one, and none if it is a file. The bytes before it begin a file of
+/// drafts. Unless its cause is `Short`, it is the first fault whatever bytes follow, and the text begins no file.
 pub fn fault_law()
     ensures one { (text : List ℕ) (place other : ℕ) (cause another : Cause) →
         IsFirstFault text place cause → IsFirstFault text other another → (place ≡ other) × (cause ≡ another) }

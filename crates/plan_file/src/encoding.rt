@@ -165,8 +165,8 @@ pub fn write_plans<W: ByteOut>(alloc: Global, plans: &[Compiled], out: &mut W) -
     }
 }
 
-/// The law of spellings. A list of plans has at most one text in each version. If it has one in version 1, it has one in
-/// version 2. The reverse holds if each plan has eight buckets and at most 1,024 literals.
+/// The law of spellings. A list of plans has at most one text in each version. If it has one in version 1, it has one
+/// in version 2. The reverse holds if each plan has eight buckets and at most 1,024 literals.
 pub fn spelling_law()
     ensures one { (version : Version) (plans : List Plan) (text other : List ℕ) →
         IsFileOf version text plans → IsFileOf version other plans → text ≡ other }

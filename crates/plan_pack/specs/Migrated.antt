@@ -47,8 +47,8 @@ IsUnusable name (NoCertificate line) = ⊥
 IsUnusable name (NoPlanFile place cause) = ⊥
 IsUnusable name (NoPlan n place) = ⊥
 
--- the refusal where what was asked for is none: it cannot be opened, or not be read to its end, or it is wrong. Where reading
--- fails later, the file is wrong only where it is so whatever would have followed; then either refusal is right
+-- the refusal where what was asked for is none: it cannot be opened, or not be read to its end, or it is wrong. Where
+-- reading fails later, the file is wrong only where it is so whatever would have followed; then either refusal is right
 pub data IsNoPlanFile (name : List ℕ) (source : Option Content) (refusal : Refusal) : Type 0 where
   Unopened : source ≡ None → IsUnusable name refusal → IsNoPlanFile name source refusal
   Unfinished : (c : Content) → source ≡ Some c → c.is_faulty ≡ true → IsUnusable name refusal → IsNoPlanFile name source refusal

@@ -11,8 +11,8 @@ use Rattle.plan_pack.specs.Taken.{TakesPlans}
 use Rattle.plan_pack.specs.declared.stop.Stop.{Stop}
 use Rattle.plan_pack.specs.declared.stop.Stop.TheVariants.{OutOfMemory}
 
--- what a stop leaves of a file for the migrated plans: it was made, where it can be, and holds a prefix; or it was not asked for,
--- since memory ran out before, or cannot be made
+-- what a stop leaves of a file for the migrated plans: it was made, where it can be, and holds a prefix; or it was not
+-- asked for, since memory ran out before, or cannot be made
 abbrev pub LeavesMigrated : {O : Type 0} → (O → Option (List ℕ)) → List Plan → List ℕ → Sources → Sources → Stop → Option O → Type 0
 LeavesMigrated written old name s left stop (Some made) =
     (can_create name s.creatable ≡ true) × (new : List Plan) × AreMigrated old new × HoldsPrefix new (written made)

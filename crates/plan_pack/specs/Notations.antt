@@ -29,7 +29,8 @@ hex_bytes line = decoded (decode_of line)
 abbrev pub hex_pattern : List ℕ → List ℕ
 hex_pattern line = unwrap_or (hex_bytes line) []
 
--- what the lines say: each text has a line of small digits and one of capitals, and no line but pairs of digits says any
+-- what the lines say: each text has a line of small digits and one of capitals, and no line but pairs of digits says
+-- any
 pub record HexLaw : Type 0 where
   pub small : (bytes : List ℕ) → IsBytes bytes → hex_bytes (encode_lower bytes) ≡ Some bytes
   pub capital : (bytes : List ℕ) → IsBytes bytes → hex_bytes (encode_upper bytes) ≡ Some bytes

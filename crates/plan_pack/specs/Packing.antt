@@ -15,8 +15,8 @@ use Rattle.plan_pack.specs.Stops.{Explains}
 use Rattle.plan_pack.specs.declared.notation.Reading.{Reading}
 use Rattle.plan_pack.specs.declared.stop.Stop.{Stop}
 
--- a device was given the plan file of plans, in version 2; or a prefix of it, and not all, where a write to the file of this
--- name failed or memory ran out
+-- a device was given the plan file of plans, in version 2; or a prefix of it, and not all, where a write to the file of
+-- this name failed or memory ran out
 abbrev pub Packs : List ℕ → List Plan → Result (Unit {0}) Stop → Option (List ℕ) → Option (List ℕ) → Type 0
 Packs name plans (Ok done) old new = ArePlans Two plans × Appends old new (spelling Two plans)
 Packs name plans (Err stop) old new = Explains stop (Some (unusable name)) × AppendsPart old new (spelling Two plans)
@@ -60,8 +60,8 @@ abbrev pub IsBefore : List (List ℕ) → Sources → Sources → Type 0
 IsBefore [] s left = ⊥
 IsBefore (name ∷ names) s left = (left ≡ after (ask_of name) s) ⊎ IsBefore names (after (ask_of name) s) left
 
--- what a stop leaves of the plan file: a prefix; or nothing, where one of the files gives no plan, or memory ran out there, or it
--- cannot be made
+-- what a stop leaves of the plan file: a prefix; or nothing, where one of the files gives no plan, or memory ran out
+-- there, or it cannot be made
 abbrev pub LeavesPack : {O : Type 0} → (O → Option (List ℕ)) → Reading → Profile → List Plan → List (List ℕ) → List ℕ → Sources → Sources → Stop → Option O → Type 0
 LeavesPack written reading profile before names output s left stop (Some made) =
     (search_messages reading names s ≡ None) × (can_create output s.creatable ≡ true) × HoldsPrefixOf reading profile before names s (written made)

@@ -1,8 +1,8 @@
 //! From files to plans, and from plans to plan files: it reads files of patterns, in bytes or in hexadecimal, and plan
 //! files; it plans lists, and writes or migrates plans. It knows no request, no standard output and no status.
 //!
-//! Theorems: over known files `pack` makes the plan file of the lists that were read, in order. `migrate_file` makes that of
-//! the plans that were read, each planned anew for sixteen buckets.
+//! Theorems: over known files `pack` makes the plan file of the lists that were read, in order. `migrate_file` makes
+//! that of the plans that were read, each planned anew for sixteen buckets.
 #![tactic(auto)]
 
 mod fault;

@@ -31,9 +31,9 @@ pub fn stop_of<O: Drop>(unmade: Unmade<'_, O>) -> Stop<'_>
 /// patterns of all are read and planned before it is made.
 ///
 /// # Errors
-/// - `Refused` with the plan file's name, where it is also the name of a file of patterns: then nothing is read. Else with what
-///   is wrong with the patterns of the first file that gives no plan. Else with the plan file's name, where it cannot be made
-///   or not be written to its end.
+/// - `Refused` with the plan file's name, where it is also the name of a file of patterns: then nothing is read. Else
+///   with what is wrong with the patterns of the first file that gives no plan. Else with the plan file's name, where
+///   it cannot be made or not be written to its end.
 /// - `OutOfMemory`, where a growth was refused.
 ///
 /// Beside them stands the file that was made, if one was: it holds a prefix of the plan file, and not all of

@@ -67,9 +67,9 @@ pub data IsVerdict (list : Literals) (c : CertificateParts) (a : Answer) : Type 
   Holds : IsCertified list c → a ≡ printed (optimal c.cost) Done → IsVerdict list c a
   Fails : (reason : Reason) → IsFirstFailure list c reason → a ≡ printed (not_certified reason) NotCertified → IsVerdict list c a
 
--- on what stands under the certificate's name: a message where nothing does, or where reading it fails; the answer on its first
--- wrong line, where it is no certificate's text; else that on the certificate. Where reading fails, a line is wrong only where
--- it is so whatever would have followed; then either answer is right
+-- on what stands under the certificate's name: a message where nothing does, or where reading it fails; the answer on
+-- its first wrong line, where it is no certificate's text; else that on the certificate. Where reading fails, a line is
+-- wrong only where it is so whatever would have followed; then either answer is right
 pub data IsCertificateAnswer (wrong : ℕ → Answer) (P : CertificateParts → Answer → Type 0) (name : List ℕ) (source : Option Content) (a : Answer) : Type 0 where
   Missing : source ≡ None → a ≡ refused_with (unusable name) → IsCertificateAnswer wrong P name source a
   Unread : (c : Content) → source ≡ Some c → c.is_faulty ≡ true → a ≡ refused_with (unusable name) → IsCertificateAnswer wrong P name source a
@@ -126,8 +126,8 @@ AnswersScan reading count names file input s =
     AnswersUnless (search_message reading file (taken_by (ask_of file) s))
     (AnswersInput (list_in reading (taken_by (ask_of file) s)) count names input (input_source file input s))
 
--- on plans and the name of their file, which can be made or not: nothing is printed where it was made and holds them; the message
--- where it cannot be made, or where a write to it failed, so that it holds a prefix alone
+-- on plans and the name of their file, which can be made or not: nothing is printed where it was made and holds them;
+-- the message where it cannot be made, or where a write to it failed, so that it holds a prefix alone
 pub data IsPackAnswer {O : Type 0} (written : O → Option (List ℕ)) (has_failed : O → Bool) (P : List plan.Plan → Type 0) (name : List ℕ) (can : Bool) (a : Answer) : Type 0 where
   Packed : (plans : List plan.Plan) (made : O) → P plans → can ≡ true → HoldsPlans plans (written made) → has_failed made ≡ false
       → a ≡ printed [] Done → IsPackAnswer written has_failed P name can a
@@ -144,8 +144,8 @@ abbrev pub AnswersPack : {O : Type 0} → (O → Option (List ℕ)) → (O → B
 AnswersPack written has_failed reading profile names output s =
     AnswersUnless (pack_message reading names output s) (IsPackAnswer written has_failed (ArePlansOf reading profile names s) output (can_create output s.creatable))
 
--- a list that is cut at these ends for plans of a profile, whose patterns stand at these places: its drawing where that is
--- asked for, else its text
+-- a list that is cut at these ends for plans of a profile, whose patterns stand at these places: its drawing where that
+-- is asked for, else its text
 abbrev pub explained : Profile → Bool → Literals → List ℕ → List (Option ℕ) → List ℕ
 explained profile svg list ends places = if svg then plan_svg profile list ends else plan_text profile list ends places
 
@@ -207,9 +207,9 @@ IsCertificateReported c a = a ≡ printed (certificate_head (length c.ends) c.co
 abbrev pub AnswersExplainCertificate : List ℕ → Sources → Answer → Type 0
 AnswersExplainCertificate name s a = IsCertificateAnswer wrong_at_line IsCertificateReported name (taken_by (Named name) s) a
 
--- to migrate the plans of one file to another: the message where there are none; what each plan cost and costs, where the other
--- file was made and holds the new plans; the message where it cannot be made, or where a write to it failed, so that it holds a
--- prefix alone
+-- to migrate the plans of one file to another: the message where there are none; what each plan cost and costs, where
+-- the other file was made and holds the new plans; the message where it cannot be made, or where a write to it failed,
+-- so that it holds a prefix alone
 pub data AnswersMigrate {O : Type 0} (written : O → Option (List ℕ)) (has_failed : O → Bool) (input output : List ℕ) (s : Sources) (a : Answer) : Type 0 where
   NoPlans : (refusal : Refusal) → IsNoPlanFile input (taken_by (ask_of input) s) refusal → a ≡ refuses refusal → AnswersMigrate written has_failed input output s a
   NotMade : (old : List plan.Plan) → IsSourceOf (taken_by (ask_of input) s) old → can_create output s.creatable ≡ false

@@ -68,8 +68,8 @@ ReportsStop OutOfMemory r old new = (r ≡ Err OutOfMemory) × Appends old new [
 
 -- ---- a run
 
--- what a run answers and writes before any message; of a file that it makes, the device shows what was written and whether a
--- write failed
+-- what a run answers and writes before any message; of a file that it makes, the device shows what was written and
+-- whether a write failed
 pub record Answers {O : Type 0} (written : O → Option (List ℕ)) (has_failed : O → Bool) (r : Request) (s left : Sources) (result : Result Status Stop) (out_old out_new : Option (List ℕ)) : Type 0 where
   pub asks : UnlessStarved result (IsLeftBy r s left) (asks_of r s) s left
   pub reports : Reports (IsAnswerTo written has_failed r s) result out_old out_new

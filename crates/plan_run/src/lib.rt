@@ -1,5 +1,5 @@
-//! A run of litplan: from a request and the files that there are to output, a message and a status. `plan_pack` reads the
-//! files and makes plan files.
+//! A run of litplan: from a request and the files that there are to output, a message and a status. `plan_pack` reads
+//! the files and makes plan files.
 #![tactic(auto)]
 
 mod answering;

@@ -3,7 +3,8 @@ use Rattle.std.specs.Prelude.{◌≡◌, ℕ}
 use Rattle.boxcar.specs.Table.{Shelves, id_at}
 use Rattle.lit_plan.specs.Plans.{Plan}
 
--- the plan that was published and its number, and where it stands: the shelf, and the name that the shelf has in its store
+-- the plan that was published and its number, and where it stands: the shelf, and the name that the shelf has in its
+-- store
 pub record TicketParts : Type 0 where
   pub number : ℕ
   pub plan : Plan

@@ -22,8 +22,9 @@ const STYLE: &[u8] =
 const FOOT: &[u8] =
     b"<path d=\"M40 260H680\"/>\n<text x=\"40\" y=\"300\">literals by length; below a bucket the bytes of its shortest, above it its cost</text>\n";
 
-/// The plan of a list as an SVG file: a bar for each bucket, as wide as it has literals and as high as it costs. Its caption
-/// compares the plan with as many even parts as the profile has buckets. Its legend has the numbers of each bucket.
+/// The plan of a list as an SVG file: a bar for each bucket, as wide as it has literals and as high as it costs. Its
+/// caption compares the plan with as many even parts as the profile has buckets. Its legend has the numbers of each
+/// bucket.
 pub fn plan_svg(
     alloc: Global,
     profile: Profile,

@@ -13,9 +13,9 @@ use std::alloc::{AllocError, Global};
 const HEADING: &[u8] =
     b"bucket  literals  shortest  bytes  weight        cost    %   endings  first and last literal\n";
 
-/// The plan of a list as a text: a row for each bucket; below them what the plan costs, what one bucket and as many even
-/// parts as the profile has buckets would, and which patterns were dropped. Of each pattern `places` has the place in the
-/// list, or none where it is null.
+/// The plan of a list as a text: a row for each bucket; below them what the plan costs, what one bucket and as many
+/// even parts as the profile has buckets would, and which patterns were dropped. Of each pattern `places` has the place
+/// in the list, or none where it is null.
 #[tactic(auto, unfolding(crate::specs::Texts::plan_text))]
 pub fn plan_text(
     alloc: Global,

@@ -40,8 +40,8 @@ impl<'a> Model for PrefilterEnds<'a> {
 }
 
 impl<'a> PrefilterEnds<'a> {
-    /// The ends after a position, by a prefilter for the literals of the list. It reads nothing yet. Positions at which no
-    /// literal can end yet are passed over.
+    /// The ends after a position, by a prefilter for the literals of the list. It reads nothing yet. Positions at which
+    /// no literal can end yet are passed over.
     #[inline]
     pub fn after(
         list: &'a ListIndex,
@@ -64,7 +64,8 @@ impl<'a> PrefilterEnds<'a> {
         }
     }
 
-    /// The same walk from a position of the text on, further on or back. It uses the filter results that it already has.
+    /// The same walk from a position of the text on, further on or back. It uses the filter results that it already
+    /// has.
     #[inline]
     pub fn skip_to(&mut self, from: usize)
         requires { from ≤ length self.old.text }

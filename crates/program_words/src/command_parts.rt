@@ -5,8 +5,8 @@ ghost use Rattle.clap.specs.Words.{AddsArg, AddsSubcommand};
 use clap::{Arg, Command};
 use std::alloc::AllocError;
 
-/// The command with this argument, or the error where a growth was refused for either. Where an argument is made within a
-/// chain of calls on a command, the proof of each `?` has to drop the command; here one proof does so for all.
+/// The command with this argument, or the error where a growth was refused for either. Where an argument is made within
+/// a chain of calls on a command, the proof of each `?` has to drop the command; here one proof does so for all.
 pub fn with_arg<'a>(
     command: Command<'a>,
     arg: Result<Arg<'a>, AllocError>,

@@ -7,8 +7,8 @@ use Rattle.lit_cert.specs.Certificates.{CertificateParts}
 use Rattle.run_planner.specs.FirstCut.{IsFirstCut}
 use Rattle.run_planner.specs.TailCosts.{AreTailCosts}
 
--- By the prices c of a run, the certificate of n places is a plan of the profile. It has the first of the cheapest cuts,
--- into no more runs than there are buckets, its price, and the tail costs.
+-- By the prices c of a run, the certificate of n places is a plan of the profile. It has the first of the cheapest
+-- cuts, into no more runs than there are buckets, its price, and the tail costs.
 pub record IsPlan (c : ℕ → ℕ → ℕ) (profile : Profile) (n : ℕ) (plan : CertificateParts) : Type 0 where
   pub for_profile : plan.profile ≡ profile
   pub first : IsFirstCut c (buckets profile) n plan.ends

@@ -49,12 +49,12 @@ pub fn plan(alloc: Global, list: &LitList, profile: Profile) -> Result<Certifica
 }
 
 /// Plans the meter's n places by its prices alone, as `plan` does a list by its costs. The certificate has the first of
-/// the cheapest cuts into at most as many runs as the profile has buckets, its price, and the least prices of cutting the
-/// remaining places. No other certificate is a plan of the places, so by a list's own meter it equals the certificate of
-/// `plan`, byte for byte.
+/// the cheapest cuts into at most as many runs as the profile has buckets, its price, and the least prices of cutting
+/// the remaining places. No other certificate is a plan of the places, so by a list's own meter it equals the
+/// certificate of `plan`, byte for byte.
 ///
-/// With b buckets of the profile and d binary digits of n it asks for at most `2 * b * n * d` prices, also where it finds
-/// no memory. It asks for none where n is 0.
+/// With b buckets of the profile and d binary digits of n it asks for at most `2 * b * n * d` prices, also where it
+/// finds no memory. It asks for none where n is 0.
 ///
 /// # Errors
 /// - `NoLiterals` where n is 0.

@@ -7,7 +7,8 @@ use Rattle.scan_core.specs.Sessions.{Bound, by_tails}
 use Rattle.scan_core.specs.Steps.{IsStep, Outcome, SessionParts}
 use Rattle.scan_core.specs.Worlds.{Streamed, by_bytes}
 
--- a stream was opened by the entry of the ticket; its scan is at the end of all bytes that it was fed, and has as many of the last of them as its plan asks for
+-- a stream was opened by the entry of the ticket; its scan is at the end of all bytes that it was fed, and has as many
+-- of the last of them as its plan asks for
 pub record IsCarried (state : Bound) (stream : Streamed) : Type 0 where
   pub opened_by : by_bytes.opened_by stream ≡ by_tails.opened_by state
   pub plan : stream.plan ≡ state.scan.plan

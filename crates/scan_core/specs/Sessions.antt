@@ -31,7 +31,8 @@ entry_of ticket = record { number = ticket.number; plan = ticket.plan }
 abbrev pub parts_of : Serving → SessionParts Bound
 parts_of s = record { published_plans = map entry_of s.published_plans; streams = s.streams }
 
--- a stream as its scanner keeps it: it begins at place 0 by the plan of its ticket, and a piece adds hits after its tail
+-- a stream as its scanner keeps it: it begins at place 0 by the plan of its ticket, and a piece adds hits after its
+-- tail
 abbrev pub by_tails : Reading Bound
 by_tails = record {
   opened_by = λ state. entry_of state.ticket;

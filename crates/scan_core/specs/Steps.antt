@@ -32,7 +32,8 @@ pub record IsPlanOf (fold : Fold) (profile : Profile) (literals : List (List ℕ
   pub list : plan.literals ≡ record { folding = fold; texts = normal_form fold literals }
   pub planned : IsPlanned plan.literals profile plan.certificate
 
--- how the state of a stream is seen: the entry that it was opened by, its plan and its place, how it begins by an entry, and with which hits a piece moves it on
+-- how the state of a stream is seen: the entry that it was opened by, its plan and its place, how it begins by an
+-- entry, and with which hits a piece moves it on
 pub record Reading (S : Type 0) : Type 1 where
   pub opened_by : S → Entry
   pub plan_of : S → plans.Plan
@@ -127,7 +128,8 @@ shown before stream plan = record { replies = plan_reply stream plan ∷ []; met
 abbrev pub AgreeWith : List Entry → Entry → Type 0
 AgreeWith entries entry = (other : Entry) → Contains entries other → other.number ≡ entry.number → other.plan ≡ entry.plan
 
--- a Publish that is not refused: an entry of the plan of its literals by its profile, with which those agree that the session knows
+-- a Publish that is not refused: an entry of the plan of its literals by its profile, with which those agree that the
+-- session knows
 pub record Publishes {S : Type 0} (reading : Reading S) (fold : Fold) (profile : Profile) (literals : List (List ℕ)) (before : SessionParts S) (outcome : Outcome S) : Type 0 where
   pub entry : Entry
   pub plan : IsPlanOf fold profile literals entry.plan

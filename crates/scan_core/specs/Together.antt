@@ -53,6 +53,7 @@ pub record IsOneRun (entries : List Entry) (old : ℕ → SessionParts Streamed)
   pub ends : last.sessions ≡ new
   pub no_others : (entry : Entry) → Contains last.entries entry → Contains entries entry
 
--- events of sessions that each meet entries of one set, one plan a number, are a run of one world, in whatever order they stand
+-- events of sessions that each meet entries of one set, one plan a number, are a run of one world, in whatever order
+-- they stand
 abbrev pub TogetherLaw : Type 0
 TogetherLaw = (entries : List Entry) (old new : ℕ → SessionParts Streamed) (events : List Event) → HasOnePlan entries → Meet entries old events new → IsOneRun entries old events new

@@ -1,4 +1,5 @@
--- The world of a store's sessions: the plans that were published, and each session with all bytes that its streams were fed.
+-- The world of a store's sessions: the plans that were published, and each session with all bytes that its streams were
+-- fed.
 use Rattle.std.specs.Prelude.{◌≡◌, ◌≢◌, ℕ, ◌+◌, ◌<◌, ◌==◌, ◌&&◌, ◌↔◌, Bool, true, false, IsTrue, List, [], ◌∷◌, ◌++◌, Contains, length, fold, option_map, Option, Some, None, if◌then◌else◌}
 use Rattle.std.specs.List.{concat}
 use Rattle.std.specs.List.Sorted.{IsStrictlySortedBy}
@@ -62,7 +63,8 @@ is_publish (Feed stream piece) = false
 is_publish (Close stream) = false
 is_publish (ShowPlan stream) = false
 
--- the entries after an event: what a Publish met is added, and has this plan wherever the number stands; what another request met is there
+-- the entries after an event: what a Publish met is added, and has this plan wherever the number stands; what another
+-- request met is there
 abbrev pub MeetsEntries : Bool → Option Entry → List Entry → List Entry → Type 0
 MeetsEntries publishes None old new = new ≡ old
 MeetsEntries true (Some entry) old new = AgreeWith old entry × (new ≡ entry ∷ old)
@@ -125,7 +127,8 @@ pub record IsAnswer (plan : plans.Plan) (pieces : List (List ℕ)) (piece : List
   pub cut : AreBlocks MAX_HITS hits answer.blocks
   pub reached : answer.place ≡ length (concat pieces) + length piece
 
--- an accepted Feed was answered by the plan under the number that the stream was last opened with, and the pieces that it was fed since
+-- an accepted Feed was answered by the plan under the number that the stream was last opened with, and the pieces that
+-- it was fed since
 pub record AnswersByPast (events : List Event) (entries : List Entry) (who stream : ℕ) (piece : List ℕ) (replies : List ReplyParts) : Type 0 where
   pub entry : Entry
   pub pieces : List (List ℕ)

@@ -270,8 +270,8 @@ impl<'s> Session<'s> {
     }
 
     /// Feeds a prefix of a piece to its stream: up to the first end by which `out` gained at least `most` hits, or the
-    /// whole piece. So the caller of a Feed need not hold all of its hits. Returns how many bytes were fed. The only fault is
-    /// `OutOfMemory`, and only where a hit was found: session and `out` are then as they were.
+    /// whole piece. So the caller of a Feed need not hold all of its hits. Returns how many bytes were fed. The only
+    /// fault is `OutOfMemory`, and only where a hit was found: session and `out` are then as they were.
     ///
     /// A finder tunes itself to long streams: for one plan at a time, whose streams share it. Without memory for a
     /// finder the stream is searched without.

@@ -51,8 +51,8 @@ pub fn answered_at_once<'s, R: Threads + Wait + Sync>(
     Ok((first, second))
 }
 
-/// Both values, or the first fault. It is generic so that its proof is short: that a type parameter is dropped is one step
-/// of it, that an `Answered` is dropped would be dozens.
+/// Both values, or the first fault. It is generic so that its proof is short: that a type parameter is dropped is one
+/// step of it, that an `Answered` is dropped would be dozens.
 fn both<T: Drop>(first: Result<T, Fault>, second: Result<T, Fault>) -> Result<(T, T), Fault>
     ensures first { IfOk result (λ met. first ≡ Ok met.0) }
     ensures second { IfOk result (λ met. second ≡ Ok met.1) }

@@ -91,8 +91,8 @@ Publishes old new plans (Err (BadPlanFile place cause)) = (plans ≡ []) × IfSo
 Publishes old new plans (Err ReadFault) = plans ≡ []
 Publishes old new plans (Err WriteFault) = IsFileOfMore old new plans
 
--- A file of this text that ends cleanly is judged by it: it is loaded where it is the file of some plans, and else refused
--- with its first fault.
+-- A file of this text that ends cleanly is judged by it: it is loaded where it is the file of some plans, and else
+-- refused with its first fault.
 pub record IsJudged (text : List ℕ) (result : Result (Unit {0}) Fault) : Type 0 where
   pub loaded : (plans : List Plan) → IsFile text plans → IsOk result
   pub refused : (place : ℕ) (cause : Cause) → IsFirstFault text place cause → result ≡ Err (BadPlanFile place cause)

@@ -18,8 +18,8 @@ use std::sync::Wait;
 use std::thread::{self, JoinHandle, Scope, Threads};
 
 /// Accepts the given number of connections, and serves each in a thread of its own, as a session of the store. `loaded`
-/// are the tickets of plans that were published before. When all have ended, it reports on `out` how, a line for each in
-/// order of acceptance. Once the last one is accepted, or accepting failed, the listener is closed, so that a late
+/// are the tickets of plans that were published before. When all have ended, it reports on `out` how, a line for each
+/// in order of acceptance. Once the last one is accepted, or accepting failed, the listener is closed, so that a late
 /// client is refused.
 ///
 /// It waits for clients, and for as long as they keep their connections.

@@ -46,8 +46,8 @@ pub record AnswersAll {S : Type 0} (step : Step S) (old new : S) (text : List �
   pub run : Run step old requests replies new
   pub sent : Sends written_old written_new before after (replies_text replies)
 
--- Some requests stand from a place on, and a prefix of their replies is written: not all of them, or a frame follows that
--- is not answered.
+-- Some requests stand from a place on, and a prefix of their replies is written: not all of them, or a frame follows
+-- that is not answered.
 pub record AnswersPrefix {S : Type 0} (step : Step S) (old : S) (text : List ℕ) (from : ℕ) (written_old written_new : Option (List ℕ)) (before : List ℕ) : Type 0 where
   pub requests : List RequestParts
   pub replies : List ReplyParts

@@ -33,8 +33,8 @@ abbrev pub AtEnd : Option Coming → Option Coming → Type 0
 AtEnd c d = IfKnown c d (λ _ y. EndsHere y)
 
 -- What each ending says. Clean: nothing remains at the end. Truncated: the rest waits for more, at the end. Bad: the
--- rest has a cause, whose refusal is the last reply. Read fault: the rest waits for more. Write fault and want of memory:
--- something is not answered in full. Memory may also be refused before the first read.
+-- rest has a cause, whose refusal is the last reply. Read fault: the rest waits for more. Write fault and want of
+-- memory: something is not answered in full. Memory may also be refused before the first read.
 abbrev pub EndsAs : {S : Type 0} → Step S → S → S → Option Coming → Option Coming → Option (List ℕ) → Option (List ℕ) → List ℕ → Ended → Type 0
 EndsAs step old new c d v w held Clean = IsServed step old new c d v w held [] [] × AtEnd c d
 EndsAs step old new c d v w held Truncated =

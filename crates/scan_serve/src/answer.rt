@@ -15,8 +15,8 @@ pub trait Answer {
 
     /// Answers a request. Its replies go to the outbox, which writes them as it fills.
     ///
-    /// After an `Err` nothing is written, or a prefix of the waiting bytes and of the replies, never all. Neither `self`
-    /// nor the outbox is of any use then.
+    /// After an `Err` nothing is written, or a prefix of the waiting bytes and of the replies, never all. Neither
+    /// `self` nor the outbox is of any use then.
     fn answer<W: ByteOut>(
         &mut self,
         request: Borrowed<'_>,

@@ -40,8 +40,8 @@ fn refuse<W: ByteOut>(cause: Cause, outbox: &mut Outbox, out: &mut W) -> Result<
     outbox.flush(out)
 }
 
-/// Answers the requests in the window, as far as their frames are whole, and writes all replies. If a bad frame follows,
-/// it then writes the refusal of that frame and returns its cause; otherwise `None`.
+/// Answers the requests in the window, as far as their frames are whole, and writes all replies. If a bad frame
+/// follows, it then writes the refusal of that frame and returns its cause; otherwise `None`.
 pub fn answer_window<S: Answer, W: ByteOut>(
     alloc: Global,
     session: &mut S,

@@ -28,8 +28,8 @@ abbrev pub ReportsPort : ℕ → Option (List ℕ) → Option (List ℕ) → Typ
 ReportsPort port err_old err_new =
     ((port ≡ 0) × (chosen : ℕ) × Appends err_old err_new (port_line chosen)) ⊎ ((port ≢ 0) × (err_new ≡ err_old))
 
--- So many connections to a port were served and reported, once the port was reported. Or why there were none was said, and
--- nothing else was done; or a write failed of the port that the system chose.
+-- So many connections to a port were served and reported, once the port was reported. Or why there were none was said,
+-- and nothing else was done; or a write failed of the port that the system chose.
 pub data ServesPort (port connections : ℕ) (status : Status) (out_failed err_failed : Bool) (out_old out_new err_old err_new : Option (List ℕ)) : Type 0 where
   Reported : (err_mid : Option (List ℕ)) → ReportsPort port err_old err_mid → ReportsSome connections status out_failed err_failed out_old out_new err_mid err_new
       → ServesPort port connections status out_failed err_failed out_old out_new err_old err_new
@@ -45,8 +45,8 @@ Serves Alone store loaded status read_fault out_failed err_failed coming_old com
 Serves (Listen port connections) store loaded status read_fault out_failed err_failed coming_old coming_new out_old out_new err_old err_new =
     (coming_new ≡ coming_old) × ServesPort port connections.count status out_failed err_failed out_old out_new err_old err_new
 
--- A request was served over a store with the plans of the files that it names; or a file could not be loaded, or there was
--- no memory for a store, and nothing was served.
+-- A request was served over a store with the plans of the files that it names; or a file could not be loaded, or there
+-- was no memory for a store, and nothing was served.
 pub data Runs (request : Request) (status : Status) (files_old files_new : Option Sources) (read_fault : Type 0) (out_failed err_failed : Bool) (coming_old coming_new : Option Coming) (out_old out_new err_old err_new : Option (List ℕ)) : Type 0 where
   Served : (store : Shelves) (gained : List tickets.TicketParts) (err_mid : Option (List ℕ)) → LoadsEach store (names_of request.plans.items) (state files_old [] err_old) (state files_new gained err_mid)
       → Serves request.service store gained status read_fault out_failed err_failed coming_old coming_new out_old out_new err_mid err_new

@@ -22,8 +22,8 @@ enum Ask<'a> {
     ShowPlan(u32),
 }
 
-/// What a reply says: of hits how many, and the last place; of a plan its fold, profile, count, cost, runs; or that memory
-/// ran out.
+/// What a reply says: of hits how many, and the last place; of a plan its fold, profile, count, cost, runs; or that
+/// memory ran out.
 #[derive(Clone, Copy, Debug, PartialEq, Eq)]
 enum ReplyKind {
     Published(u64),

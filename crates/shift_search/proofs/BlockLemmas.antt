@@ -8,7 +8,8 @@ use Rattle.lit_base.specs.NextEnds.{NoEndUpTo}
 use Rattle.shift_search.specs.ShiftOr.{Bucketing, RulesOut, RulesOutWords}
 use Rattle.shift_search.proofs.ShiftOrLemmas.{none_of_word, none_of_words}
 
--- after the groups of a block one more is probed: four words say which ends are ruled out, and it is noted, or nothing ends there
+-- after the groups of a block one more is probed: four words say which ends are ruled out, and it is noted, or nothing
+-- ends there
 pub one_more : (b : Bucketing) (text : List ℕ) (at group count more : ℕ) (words four numbers : List ℕ) (before after : ℕ) → length four ≡ 4 → 4 * group + 4 ≤ length words → count < length numbers → more ≤ 1
     → RulesOutWords b text (at + 32 * group) four → (more ≡ 1) ⊎ NoEndUpTo b.literals text (at + 32 * group - 1) (at + 32 * group + 31) → RulesOut b text (at + 32 * (group + 1)) after → IsBlock b text at group words numbers count before
     → IsBlock b text at (group + 1) (put_chunk (4 * group) words four) (slice_set numbers count group) (count + more) after

@@ -49,7 +49,8 @@ moved_high word count bit small above =
     let plain : word * 2 ^ count ≡ word * 2 ^ count + 0 = omega arith in
     low_bit (word * 2 ^ count) 64 bit small ∙ ap (λ n. bit_at n bit) plain ∙ bit_at_cat_high word count 0 bit (pow_pos count) above
 
--- a word that rules out ends from a later position on, shifted up by as many bytes, rules out ends from the first position on
+-- a word that rules out ends from a later position on, shifted up by as many bytes, rules out ends from the first
+-- position on
 pub ruled_here : (b : Bucketing) (text : List ℕ) (at further word : ℕ) → further < 8 → RulesOut b text (at + further) word → RulesOut b text at (word * 2 ^ (8 * further) % 2 ^ 64)
 ruled_here b text at further word close rules place ahead near occurs =
     let bucket : ℕ = bucket_at b.buckets place in
@@ -101,7 +102,8 @@ words_after b text at further words moved close fits is rules i four =
     subst (RulesOut b text (at + 8 + 8 * i)) (sym (is i four)) (subst (λ p. RulesOut b text p (slice_index words i / 2 ^ (64 - 8 * further))) eight
     (ruled_after b text (at + 8 * i) further (slice_index words i) close (fits i four) (subst (λ p. RulesOut b text p (slice_index words i)) there (rules i four))))
 
--- four words rule out ends after their positions: each at the positions of the next word, and the last of four earlier words at the positions of the first
+-- four words rule out ends after their positions: each at the positions of the next word, and the last of four earlier
+-- words at the positions of the first
 pub words_next : (b : Bucketing) (text : List ℕ) (at : ℕ) (before after next : List ℕ) → slice_index next 0 ≡ slice_index before 3 → ((i : ℕ) → i < 3 → slice_index next (i + 1) ≡ slice_index after i) → RulesOut b text at (slice_index before 3) → RulesOutWords b text (at + 8) after → RulesOutWords b text at next
 words_next b text at before after next first others rules later zero four =
     let here : at ≡ at + 8 * 0 = omega arith in
@@ -217,7 +219,8 @@ none_left b text from probes are none end beyond within here = elim (cases_lt en
       absurd (omega (arith, left_at b text from end probes are beyond after within here, ap (λ w. bit_at w bit) none, bit_at-zero bit))
 ]
 
--- the first literal that ends at the position of the lowest bit is the first found, and the later bits are the state of a search after it
+-- the first literal that ends at the position of the lowest bit is the first found, and the later bits are the state of
+-- a search after it
 pub lowest_verified : (b : Bucketing) (text : List ℕ) (from at unruled carried low rest after first : ℕ) → at + 7 ≤ length text → AreProbes b text from (record { at = at; unruled = unruled; carried = carried }) → SplitsLowest unruled low rest
     → ((k : ℕ) → (bit_at after k ≡ 1) ↔ ((8 * (low / 8) + 8 ≤ k) × (bit_at rest k ≡ 1))) → IsFirstEnding b.literals text 0 (at + low / 8) first
     → IsVerified b text from (record { end = at + low / 8; first = first; probes = record { at = at; unruled = after; carried = carried } })
@@ -250,7 +253,8 @@ lowest_verified b text from at unruled carried low rest after first inside are s
       };
     }
 
--- the ends that are not ruled out at eight positions are the state of a search after any position before them, if nothing ends up to the first of the eight
+-- the ends that are not ruled out at eight positions are the state of a search after any position before them, if
+-- nothing ends up to the first of the eight
 pub probes_here : (b : Bucketing) (text : List ℕ) (start at ruled carried : ℕ) → start < at → 8 ≤ at → at + 7 ≤ length text → ruled < 2 ^ 64 → NoEndUpTo b.literals text start (at - 1) → RulesOut b text at ruled → RulesOut b text (at + 8) carried
     → AreProbes b text start (record { at = at; unruled = bit_not w64 ruled; carried = carried })
 probes_here b text start at ruled carried near some inside fits none rules after = record {

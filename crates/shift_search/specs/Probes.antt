@@ -1,4 +1,5 @@
--- The state of a search by shift-or: the ends that are not ruled out at eight positions in a row, and the ends that are ruled out after them.
+-- The state of a search by shift-or: the ends that are not ruled out at eight positions in a row, and the ends that are
+-- ruled out after them.
 use Rattle.std.specs.Prelude.{◌≡◌, ℕ, ◌+◌, ◌-◌, ◌*◌, ◌/◌, ◌<◌, ◌≤◌, List, MatchOption, Option, length, max}
 use Rattle.std.specs.Int.{bit_at}
 use Rattle.lit_base.specs.Occurrences.{Occurs}
@@ -8,7 +9,8 @@ use Rattle.shift_search.specs.declared.probes.Probes.{Probes}
 use Rattle.shift_search.specs.declared.probes.Verified.{Verified}
 use Rattle.shift_search.specs.declared.shift_or.TheConstants.{FIRST}
 
--- the state of a search for ends after `from`: none lies before the eight positions, each among them has its bit, no bit stands for a position up to `from`, and `carried` rules out ends at the next eight positions
+-- the state of a search for ends after `from`: none lies before the eight positions, each among them has its bit, no
+-- bit stands for a position up to `from`, and `carried` rules out ends at the next eight positions
 pub record AreProbes (b : Bucketing) (text : List ℕ) (from : ℕ) (probes : Probes) : Type 0 where
   pub some : 8 ≤ probes.at
   pub near : from ≤ probes.at + 7
@@ -32,7 +34,8 @@ pub record IsVerified (b : Bucketing) (text : List ℕ) (from : ℕ) (found : Ve
 abbrev pub FindsVerified : Bucketing → List ℕ → ℕ → ℕ → Option Verified → Type 0
 FindsVerified b text from last found = MatchOption found (NoEndUpTo b.literals text from last) (IsVerified b text from)
 
--- nothing ends after a position and up to seven positions after another one, and `carried` rules out ends at the next eight
+-- nothing ends after a position and up to seven positions after another one, and `carried` rules out ends at the next
+-- eight
 pub record IsPassed (b : Bucketing) (text : List ℕ) (from at carried : ℕ) : Type 0 where
   pub some : 8 ≤ at
   pub near : from ≤ at + 7

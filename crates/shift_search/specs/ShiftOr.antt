@@ -22,7 +22,8 @@ pub record Bucketing : Type 0 where
 abbrev pub bucket_at : List ℕ → ℕ → ℕ
 bucket_at buckets place = slice_index buckets place % 8
 
--- the number that the two bytes before a position of a text spell, with the last byte as the high one, without the case of letters
+-- the number that the two bytes before a position of a text spell, with the last byte as the high one, without the case
+-- of letters
 abbrev pub number_at : Fold → List ℕ → ℕ → ℕ
 number_at fold text at = suffix_key fold text at 2 / 2 ^ 48
 
@@ -34,7 +35,8 @@ last_number_at fold text at = suffix_key fold text at 1 / 2 ^ 56
 abbrev pub pair_case_bits : Fold → ℕ
 pair_case_bits fold = case_bits fold / 2 ^ 48
 
--- a word rules out ends from a position of a text on: byte k stands for the end k positions further on. If a literal ends there, the byte lacks the bit of its bucket
+-- a word rules out ends from a position of a text on: byte k stands for the end k positions further on. If a literal
+-- ends there, the byte lacks the bit of its bucket
 abbrev pub RulesOut : Bucketing → List ℕ → ℕ → ℕ → Type 0
 RulesOut b text at word = (place ahead : ℕ) → ahead < 8 → Occurs b.literals text place (at + ahead) → bit_at word (8 * ahead + bucket_at b.buckets place) ≡ 0
 
@@ -88,7 +90,8 @@ abbrev pub IsNeeded : Literals → List ℕ → ℕ → ℕ → Type 0
 IsNeeded l buckets number bit = IsPass l buckets IsShort (length l.texts) bit
     ⊎ IsPass l buckets (FitsPair l.folding number) (length l.texts) bit
 
--- a table has an entry for each pair of bytes. It lacks the bits that some literal needs it to lack, and no others; its two bytes count without the case of letters
+-- a table has an entry for each pair of bytes. It lacks the bits that some literal needs it to lack, and no others; its
+-- two bytes count without the case of letters
 pub record AreEntriesOf (l : Literals) (buckets entries : List ℕ) : Type 0 where
   pub all : length entries ≡ ENTRIES
   pub each : (number bit : ℕ) → number < ENTRIES → bit < 64 → (bit_at (slice_index entries number) bit ≡ 0)

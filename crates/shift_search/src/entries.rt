@@ -39,7 +39,8 @@ pub(crate) fn fill_all(list: &LitList, buckets: &[u8], entries: &mut Vec<u64>)
     leave_case_out(entries, (case_bits(list.fold()) >> 48) as usize);
 }
 
-/// Clears the bits of an entry for which its bytes say nothing: of ends too far ahead of them for some literal's length.
+/// Clears the bits of an entry for which its bytes say nothing: of ends too far ahead of them for some literal's
+/// length.
 fn without_short(entry: u64, list: &LitList, buckets: &[u8]) -> u64
     requires { length buckets.now ≡ length list.now.texts }
     ensures { IsCleared entry result (IsPass list.now buckets.now IsShort (length list.now.texts)) }

@@ -141,8 +141,8 @@ impl ShiftOr {
         Some(self.entries.as_slice())
     }
 
-    /// The cost of a search of `count` bytes with these false positives and the ends `found`, in tenths of a nanosecond.
-    /// The work that factors also do at each end is not included.
+    /// The cost of a search of `count` bytes with these false positives and the ends `found`, in tenths of a
+    /// nanosecond. The work that factors also do at each end is not included.
     pub fn cost_of(&self, count: usize, false_positives: usize, found: EndRate) -> usize {
         match self.stride {
             Stride::One => cost_of::<1>(count, false_positives, found),

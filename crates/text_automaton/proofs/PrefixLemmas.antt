@@ -1,4 +1,5 @@
--- Prefixes of literals, and the states to which they lead. Prefixes and texts stand with their last byte first, so the end of a text begins it here.
+-- Prefixes of literals, and the states to which they lead. Prefixes and texts stand with their last byte first, so the
+-- end of a text begins it here.
 use Rattle.std.proofs.Common.{◌≡◌, ℕ, zero, suc, ◌+◌, ◌*◌, ◌<◌, ◌≤◌, List, [], ◌∷◌, inl, inr, length, slice_index, refl, sym, ap, ◌∙◌, subst, arith}
 use Rattle.std.proofs.lemmas.Bool.{cases_lt}
 use Rattle.text_automaton.specs.Prefixes.{Begins, IsNextShorter, Leads}

@@ -89,8 +89,8 @@ impl<'a> EndWalk for AutomatonEnds<'a> {
     }
 }
 
-/// Adds a hit for each literal of `output`; all end at `end`, which counts as `at`. When memory is refused, earlier hits
-/// stay added.
+/// Adds a hit for each literal of `output`; all end at `end`, which counts as `at`. When memory is refused, earlier
+/// hits stay added.
 #[inline(always)]
 fn add_output(
     list: &ListIndex,

@@ -35,7 +35,8 @@ earlier_below h i earlier = ap (λ o. ordering_then o (nat_cmp h.0 i.0)) (sym (n
 at_end : (l : Literals) (text : List ℕ) (place e f : ℕ) → e ≡ f → Occurs l text place e → Occurs l text place f
 at_end l text place e f same o = subst (λ x. Occurs l text place x) same o
 
--- an occurrence in a prefix is an occurrence in the text; an occurrence in the text that ends in the prefix is one in the prefix
+-- an occurrence in a prefix is an occurrence in the text; an occurrence in the text that ends in the prefix is one in
+-- the prefix
 from_prefix : (l : Literals) (text : List ℕ) (m place e : ℕ) → Occurs l (take m text) place e → Occurs l text place e
 from_prefix l text m place e o = subst (λ t. Occurs l t place e) (take-append-drop m text) (occurs_of_prefix l (take m text) (drop m text) place e o)
 

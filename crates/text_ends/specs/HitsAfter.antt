@@ -15,7 +15,9 @@ pub record GainsHitsAfter (l : Literals) (text : List ℕ) (from at : ℕ) (old 
   pub grown : new ≡ old ++ found
   pub added : AreHitsAfter l text from at found
 
--- a search through a text has stopped at a position: a list of hits has gained those up to there. It stopped before the text's end only after it had gained `most`, or one where `most` is 0. It stopped at the first such position: the hits from the `most`th on end there
+-- a search through a text has stopped at a position: a list of hits has gained those up to there. It stopped before the
+-- text's end only after it had gained `most`, or one where `most` is 0. It stopped at the first such position: the hits
+-- from the `most`th on end there
 pub record StopsAt (l : Literals) (text : List ℕ) (from at most stop : ℕ) (old new : List (ℕ × ℕ)) : Type 0 where
   pub after : from ≤ stop
   pub within : stop ≤ length text

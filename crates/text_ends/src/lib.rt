@@ -1,5 +1,5 @@
-//! The ends of literals in a text, and the hits there: the interface that each engine of a search has, and the one loop over
-//! ends, which works with every engine.
+//! The ends of literals in a text, and the hits there: the interface that each engine of a search has, and the one loop
+//! over ends, which works with every engine.
 #![tactic(auto)]
 
 mod ends;

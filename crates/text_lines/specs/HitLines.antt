@@ -24,7 +24,8 @@ pub record IsFirstHitLine (l : Literals) (text missed line rest : List ℕ) : Ty
   pub misses : AllMiss l missed
   pub hit : matches l.folding false l.texts line ≡ true
 
--- what a search for such lines has: its plan, the literals of its finder, if there is one, and the text after the last line found
+-- what a search for such lines has: its plan, the literals of its finder, if there is one, and the text after the last
+-- line found
 pub record HitSearch : Type 0 where
   pub plan : Plan
   pub finder : Option Literals

@@ -14,7 +14,8 @@ pub record Searched : Type 0 where
 abbrev pub FindsNext : Literals → List ℕ → ℕ → Option ℕ → Type 0
 FindsNext l text from found = MatchOption found (NoEndAfter l text from) (IsNextEnd l text from)
 
--- the hits after `from`, which counts as `at`, are added to a list up to where the result says. Memory is refused only after a hit was found, and the list is then unchanged
+-- the hits after `from`, which counts as `at`, are added to a list up to where the result says. Memory is refused only
+-- after a hit was found, and the list is then unchanged
 pub record AddsHits {E : Type 0} (l : Literals) (text : List ℕ) (from at most : ℕ) (old new : List (ℕ × ℕ)) (result : Result ℕ E) : Type 0 where
   pub ok : IfOk result (λ stop. StopsAt l text from at most stop old new)
   pub same_hits : OnErr result (new ≡ old)

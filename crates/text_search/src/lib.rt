@@ -1,5 +1,5 @@
-//! Searches of one text after another that choose the fastest engine for them. A choice changes the time of a search, never
-//! its result.
+//! Searches of one text after another that choose the fastest engine for them. A choice changes the time of a search,
+//! never its result.
 #![tactic(auto)]
 
 mod end_finder;

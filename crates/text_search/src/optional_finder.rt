@@ -75,8 +75,8 @@ pub fn make_if_long(finder: &mut Option<EndFinder>, alloc: Global, compiled: &Co
     }
 }
 
-/// Makes a finder, if there is memory for one. It stands alone because a function clears room for all that it moves when
-/// it begins, and mostly none is made.
+/// Makes a finder, if there is memory for one. It stands alone because a function clears room for all that it moves
+/// when it begins, and mostly none is made.
 #[inline(never)]
 fn make(finder: &mut Option<EndFinder>, alloc: Global, compiled: &Compiled)
     ensures { IfSome finder.new (λ list. list ≡ compiled.now.literals) }

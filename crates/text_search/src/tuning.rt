@@ -1,7 +1,7 @@
 //! The prices and thresholds by which `strategy` chooses an engine. They change the time of a search, never its result.
 //!
-//! Prices are in tenths of a nanosecond. `factor_search` and `shift_search` estimate by prices of their own, each in its
-//! `tuning.rt`.
+//! Prices are in tenths of a nanosecond. `factor_search` and `shift_search` estimate by prices of their own, each in
+//! its `tuning.rt`.
 
 // Literals.
 
@@ -12,8 +12,8 @@ pub const MOST_WITHOUT_FINDER: usize = 3;
 /// Literals. A list of at most this length is tuned by the smaller sample, which shows its rare factors. Not varied.
 pub(crate) const MOST_BY_SMALL_SAMPLE: usize = 32;
 
-/// Literals. A longer list is not searched for by factors: with more literals most positions pass the masks. Measured: of
-/// 1,000 literals, 100 of them short, a third.
+/// Literals. A longer list is not searched for by factors: with more literals most positions pass the masks. Measured:
+/// of 1,000 literals, 100 of them short, a third.
 pub(crate) const MOST_BY_FACTORS: usize = 128;
 
 /// Literals. The plan's masks serve lists of at most this length well: two for each bucket. Not varied.
@@ -75,7 +75,8 @@ pub(crate) const PREFILTER_END_COST: usize = 500;
 /// The automaton, for 1,024 bytes without ends, while its rows stay in the cache. Measured.
 pub(crate) const AUTOMATON_COST: usize = 9500;
 
-/// States whose rows stay in the cache; each further one costs half a unit for 1,024 bytes. Measured on four lists of 1,000.
+/// States whose rows stay in the cache; each further one costs half a unit for 1,024 bytes. Measured on four lists of
+/// 1,000.
 pub(crate) const NEAR_STATES: usize = 1024;
 
 /// To begin a lane of 1,024 positions, for each byte of the overlap, which it reads first. Measured.

@@ -6,7 +6,8 @@ use crate::views::{Bytes, FoundHit};
 use c_handle::{PlanHandle, StreamHandle};
 use std::alloc::Global;
 
-/// The statuses of making a plan for one word and of opening a stream by it, and the stream. The plan's own handle is freed.
+/// The statuses of making a plan for one word and of opening a stream by it, and the stream. The plan's own handle is
+/// freed.
 fn opened(alloc: Global, word: &[u8]) -> (i32, i32, StreamHandle) {
     let mut plan = PlanHandle::empty(alloc);
     let mut stream = StreamHandle::empty(alloc);

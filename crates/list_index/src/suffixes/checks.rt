@@ -19,8 +19,8 @@ pub(crate) const CHECK_BITS: usize = 13;
 
 /// Keys of this many bytes up to seven are checked by one probe, and keys of eight by another. Measured: a probe for
 /// each width from the least to eight takes 18 of 100 instructions for a thousand frequent literals in log lines. The
-/// chains reject what the two probes pass wrongly. With one probe for all keys, a thousand rare literals in English text
-/// take 1.1 times as long.
+/// chains reject what the two probes pass wrongly. With one probe for all keys, a thousand rare literals in English
+/// text take 1.1 times as long.
 pub(crate) const LEAST_CHECKED: usize = 4;
 
 /// A byte for each hash. Bit `width - 1` is set if some literal with a key of `width` bytes has that hash by its

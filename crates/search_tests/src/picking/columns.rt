@@ -1,8 +1,8 @@
 //! Lines in which literals end in one column, and others.
 use super::*;
 
-/// Lines with a literal that ends after five bytes, one so short that its fifth byte is the next one's, and some with a literal in
-/// other columns.
+/// Lines with a literal that ends after five bytes, one so short that its fifth byte is the next one's, and some with a
+/// literal in other columns.
 static ALIKE: [Turn; 3] = [
     (
         Some(b"a cat\na cat\na cat\nx\ncat\na cat\na dog\nno cat\na cat\na ca"),

@@ -3,7 +3,8 @@ use Rattle.std.specs.Int.{bit_at}
 use Rattle.factor_search.proofs.PendingSteps.{AreLeft}
 use Rattle.factor_search.proofs.probing.probe_passing.Given as goal
 
--- a literal whose factor ends in the block is pending, or its position remains, and the remaining positions are in the block and the text
+-- a literal whose factor ends in the block is pending, or its position remains, and the remaining positions are in the
+-- block and the text
 abbrev pub invariant-places : goal.invariant-places
 invariant-places l = record {
   left : AreLeft l.factors l.text l.seen l.found l.rest;

@@ -1,4 +1,5 @@
--- The remaining ends at eight positions are verified one after the other, and then the rest of the text is searched position by position.
+-- The remaining ends at eight positions are verified one after the other, and then the rest of the text is searched
+-- position by position.
 use Rattle.std.specs.Int.{bit_not}
 use Rattle.std.proofs.Common.{ℕ, ◌+◌, bit_or, length, arith, w64}
 use Rattle.std.proofs.lemmas.Nat.{or_lt}
