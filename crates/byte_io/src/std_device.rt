@@ -12,7 +12,9 @@ use std::io::{Error, ErrorKind, Read, Write};
 /// A file or standard input, as one reader. Its known bytes are the known bytes of either.
 #[derive(Drop)]
 pub enum FileOrInput<F: Drop, S: Drop> {
+    /// A file.
     File(F),
+    /// Standard input.
     Input(S),
 }
 

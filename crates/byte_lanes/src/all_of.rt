@@ -10,7 +10,9 @@ use std::simd::prelude::*;
 /// for what the other does.
 #[derive(Clone, Copy, Debug, PartialEq, Eq)]
 pub struct AllOf<A, B> {
+    /// The test whose byte has the first turn.
     pub one: A,
+    /// The test whose bytes have the later turns.
     pub other: B,
 }
 

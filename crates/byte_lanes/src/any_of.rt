@@ -7,7 +7,9 @@ use crate::end_test::EndTest;
 /// Two tests of ends, joined: it passes what either passes.
 #[derive(Clone, Copy, Debug, PartialEq, Eq)]
 pub struct AnyOf<A, B> {
+    /// The first test.
     pub one: A,
+    /// The second test.
     pub other: B,
 }
 

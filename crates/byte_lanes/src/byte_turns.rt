@@ -5,8 +5,11 @@ use crate::tuning::{MOST_CREDIT, START_CREDIT, STOP_COST, WAIT};
 /// One of up to three bytes of a literal, the rarest in usual text first.
 #[derive(Clone, Copy, Debug)]
 pub enum Turn {
+    /// The first of them.
     First,
+    /// The second, or the last where there are fewer.
     Second,
+    /// The third, or the last where there are fewer.
     Third,
 }
 

@@ -17,6 +17,7 @@ pub struct Nibbles<'a> {
 }
 
 impl<'a> Nibbles<'a> {
+    /// The test by these masks. It loads their tables into vectors.
     #[inline(always)]
     pub fn new(masks: &'a ByteMasks) -> Nibbles<'a>
         ensures { result.masks.now ≡ masks.now }

@@ -23,8 +23,8 @@ use std::marker::Model;
 use std::sync::Arc;
 use text_ends::{EndRate, Tally};
 
-/// The literals of a list, with a hash bit for a factor of each, and masks for its last bytes: a factor that is rare in
-/// a given text.
+/// A list with one factor for each literal: its hash bit, and masks over the factor's last bytes. Factors are chosen to
+/// be rare in a sample.
 ///
 /// Probes at each position that the masks pass miss no end. It takes all its memory when it is made.
 #[derive(Debug, Drop)]

@@ -6,7 +6,7 @@ use lit_base::LitList;
 /// Bytes of a factor, unless the literal is shorter.
 pub(crate) const WIDTH: usize = 4;
 
-/// The number of bits of a factor's hash: so many that few other bytes have a hash with a bit.
+/// The number of bits of a factor's hash. Few of the 65,536 hashes have a bit set, so other bytes rarely match.
 pub(crate) const HASH_BITS: usize = 16;
 
 /// The least width of the factors of a list's literals; four at most.

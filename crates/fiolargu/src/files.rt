@@ -35,6 +35,12 @@ fn plans_of(alloc: Global, file: &[u8]) -> Result<Vec<Compiled>, (i32, usize)>
 }
 
 /// Reads a plan file and takes one of its plans.
+///
+/// # Errors
+/// - `BAD_PLAN_FILE`, where the bytes are no plan file, or a certificate in it does not hold. Then `fault_at` is the
+/// offset of the first fault; otherwise it is 0.
+/// - `NO_SUCH_PLAN`, where the file has at most `which` plans.
+/// - `OUT_OF_MEMORY`, where a growth was refused.
 #[unsafe(no_mangle)]
 pub extern "C" fn fiolargu_plan_load(
     alloc: Global,
@@ -78,6 +84,11 @@ fn load(handle: &mut PlanHandle, alloc: Global, plans: Vec<Compiled>, which: usi
 }
 
 /// Writes a plan file with one plan.
+///
+/// # Errors
+/// - `NULL_HANDLE`, where `plan` is null.
+/// - `SMALL_BUFFER`, where the buffer has less room. Then `len` is the room that is needed; at other refusals it is 0.
+/// - `OUT_OF_MEMORY`, where a growth was refused.
 #[unsafe(no_mangle)]
 pub extern "C" fn fiolargu_plan_save(
     alloc: Global,
@@ -123,6 +134,11 @@ fn save(alloc: Global, plan: &Compiled, buffer: &mut [u8], len: &mut usize) -> i
 }
 
 /// Reads a plan file and counts its plans.
+///
+/// # Errors
+/// - `BAD_PLAN_FILE`, where the bytes are no plan file, or a certificate in it does not hold. Then `fault_at` is the
+/// offset of the first fault; otherwise it is 0.
+/// - `OUT_OF_MEMORY`, where a growth was refused.
 #[unsafe(no_mangle)]
 pub extern "C" fn fiolargu_check(
     alloc: Global,

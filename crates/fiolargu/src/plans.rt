@@ -23,6 +23,14 @@ use lit_base::{Fold, Profile};
 use std::alloc::Global;
 
 /// Makes a plan of patterns. `literal_of` gets the number of each pattern's literal, if it has any room.
+///
+/// # Errors
+/// - `OUT_OF_RANGE`, where a flag is unknown.
+/// - `SMALL_BUFFER`, where `literal_of` has some room, but not for all patterns.
+/// - `TOO_MANY_PATTERNS`, `LITERAL_TOO_LONG` or `LIST_TOO_LARGE`, whichever the patterns in order give first. After
+/// `LITERAL_TOO_LONG`, `fault_at` is the position of the pattern; otherwise it is 0.
+/// - `NO_LITERALS`, where no pattern has a byte.
+/// - `OUT_OF_MEMORY`, where a growth was refused. Only then may `literal_of` have changed.
 #[unsafe(no_mangle)]
 pub extern "C" fn fiolargu_plan_new(
     alloc: Global,
@@ -74,6 +82,10 @@ pub extern "C" fn fiolargu_plan_new(
 }
 
 /// Makes a plan of the lines of a text.
+///
+/// # Errors
+/// The errors of `fiolargu_plan_new` for the lines, without `SMALL_BUFFER`. A text of more than `MAX_TEXT_LEN` bytes is
+/// `LIST_TOO_LARGE` too.
 #[unsafe(no_mangle)]
 pub extern "C" fn fiolargu_plan_of_lines(
     alloc: Global,
@@ -113,6 +125,10 @@ pub extern "C" fn fiolargu_plan_of_lines(
 }
 
 /// Makes `other` a second owner of a plan.
+///
+/// # Errors
+/// - `NULL_HANDLE`, where `plan` is null.
+/// - `OUT_OF_MEMORY`, where a growth was refused.
 #[unsafe(no_mangle)]
 pub extern "C" fn fiolargu_plan_share(
     alloc: Global,
@@ -164,6 +180,9 @@ fn flags_of(fold: Fold, profile: Profile) -> u32
 }
 
 /// Says what a plan has.
+///
+/// # Errors
+/// `NULL_HANDLE`, where `plan` is null; `info` stays as it was.
 #[unsafe(no_mangle)]
 pub extern "C" fn fiolargu_plan_info(
     alloc: Global,
@@ -185,6 +204,11 @@ pub extern "C" fn fiolargu_plan_info(
 }
 
 /// Writes the bytes of a literal.
+///
+/// # Errors
+/// - `NULL_HANDLE`, where `plan` is null.
+/// - `OUT_OF_RANGE`, where the plan has no such literal.
+/// - `SMALL_BUFFER`, where the buffer has less room. Then `len` is the room that is needed; at other refusals it is 0.
 #[unsafe(no_mangle)]
 pub extern "C" fn fiolargu_plan_literal(
     alloc: Global,
@@ -250,7 +274,7 @@ pub(crate) fn write_bytes(bytes: &[u8], buffer: &mut [u8], len: &mut usize) -> i
     OK
 }
 
-/// Frees a plan.
+/// Frees a plan and makes the handle null. A null handle stays null.
 #[unsafe(no_mangle)]
 pub extern "C" fn fiolargu_plan_free(alloc: Global, plan: &mut PlanHandle)
     ensures { plan.new.held ≡ None }

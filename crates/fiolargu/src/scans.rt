@@ -52,6 +52,12 @@ pub(crate) fn most_of(plan: &Compiled, buffer: &[FoundHit]) -> usize
 }
 
 /// Finds the hits of a text after `place`, up to the new `place`.
+///
+/// # Errors
+/// - `NULL_HANDLE`, where `plan` is null.
+/// - `SMALL_BUFFER`, where the buffer has no more room than the plan has literals.
+/// - `OUT_OF_RANGE`, where `place` is after the end of the text.
+/// - `OUT_OF_MEMORY`, where a growth was refused. It comes only if a literal ends after `place`.
 #[unsafe(no_mangle)]
 pub extern "C" fn fiolargu_scan(
     alloc: Global,
@@ -130,7 +136,11 @@ fn scan_held(
     }
 }
 
-/// Finds the first end after a position of a text.
+/// Finds the first end after a position of a text, or 0 if there is none.
+///
+/// # Errors
+/// - `NULL_HANDLE`, where `plan` is null.
+/// - `OUT_OF_RANGE`, where `from` is after the end of the text.
 #[unsafe(no_mangle)]
 pub extern "C" fn fiolargu_next(
     alloc: Global,

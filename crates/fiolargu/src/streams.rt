@@ -50,6 +50,10 @@ fn open(handle: &mut StreamHandle, alloc: Global, plan: &TunedPlan, base: u64) -
 }
 
 /// Opens a stream, which has a share of the plan.
+///
+/// # Errors
+/// - `NULL_HANDLE`, where `plan` is null.
+/// - `OUT_OF_MEMORY`, where a growth was refused.
 #[unsafe(no_mangle)]
 pub extern "C" fn fiolargu_stream_open(
     alloc: Global,
@@ -72,6 +76,12 @@ pub extern "C" fn fiolargu_stream_open(
 }
 
 /// Feeds the next piece, up to the first end at which the buffer may be full.
+///
+/// # Errors
+/// - `NULL_HANDLE`, where `stream` is null.
+/// - `SMALL_BUFFER`, where the buffer has no more room than the plan has literals.
+/// - `STREAM_TOO_LONG`, where the position would pass 2^64 - 1 with the whole piece.
+/// - `OUT_OF_MEMORY`, where a growth was refused. It comes only if a literal ends in the piece.
 #[unsafe(no_mangle)]
 pub extern "C" fn fiolargu_stream_feed(
     alloc: Global,
@@ -145,6 +155,9 @@ fn feed_held(
 }
 
 /// The position of a stream.
+///
+/// # Errors
+/// `NULL_HANDLE`, where `stream` is null; `place` stays as it was.
 #[unsafe(no_mangle)]
 pub extern "C" fn fiolargu_stream_place(
     alloc: Global,
@@ -166,6 +179,10 @@ pub extern "C" fn fiolargu_stream_place(
 }
 
 /// Makes `other` an equal stream.
+///
+/// # Errors
+/// - `NULL_HANDLE`, where `stream` is null.
+/// - `OUT_OF_MEMORY`, where a growth was refused.
 #[unsafe(no_mangle)]
 pub extern "C" fn fiolargu_stream_copy(
     alloc: Global,
@@ -190,6 +207,9 @@ pub extern "C" fn fiolargu_stream_copy(
 }
 
 /// Begins a new stream by the same plan.
+///
+/// # Errors
+/// `NULL_HANDLE`, where `stream` is null.
 #[unsafe(no_mangle)]
 pub extern "C" fn fiolargu_stream_reset(alloc: Global, stream: &mut StreamHandle, base: u64) -> i32
     ensures begun { result ≡ OK → IfSome (stream_of stream.old.held) (λ s. stream_of stream.new.held ≡ Some (started s.plan base)) }
@@ -205,7 +225,7 @@ pub extern "C" fn fiolargu_stream_reset(alloc: Global, stream: &mut StreamHandle
     OK
 }
 
-/// Closes a stream.
+/// Closes a stream and makes the handle null. A null handle stays null.
 #[unsafe(no_mangle)]
 pub extern "C" fn fiolargu_stream_close(alloc: Global, stream: &mut StreamHandle)
     ensures { stream.new.held ≡ None }

@@ -1,4 +1,4 @@
-//! The search and the output of a run, and its findings.
+//! What a run is given, and what it finds.
 ghost use Rattle.std.specs.Prelude.{◌≡◌, ◌||◌, false};
 ghost use Rattle.grep_run.specs.Scanning.{is_fault};
 
@@ -6,7 +6,7 @@ use crate::compiled_patterns::CompiledPatterns;
 use crate::options::GrepOptions;
 use std::alloc::Global;
 
-/// The search of a run, and its output.
+/// The allocator, the options and the patterns of a run.
 #[derive(Clone, Copy)]
 pub struct Request<'a> {
     pub alloc: Global,

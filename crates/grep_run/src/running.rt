@@ -49,6 +49,12 @@ pub fn run<O: Opener, W: ByteOut, E: ByteOut>(
 }
 
 /// Runs grep as far as writes and memory allow.
+///
+/// # Errors
+/// - `WriteFault`, where a write to `out` or `err` failed.
+/// - `OutOfMemory`, where a growth was refused.
+///
+/// After either, a prefix of the output and of the messages was written.
 pub fn answer<O: Opener, W: ByteOut, E: ByteOut>(
     alloc: Global,
     options: &GrepOptions,

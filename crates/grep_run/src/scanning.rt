@@ -105,9 +105,9 @@ fn plain_picker_for<'a>(request: &Request<'a>) -> Picker<'a>
     Picker::new(request.alloc, plan, patterns.has_empty, rule)
 }
 
-/// Reads the lines of an input into the block, as far as they are wanted. What a piece gives is written
-/// before more is read, since more may be long in coming; only what the last line gives is held at the
-/// end. In a long run, or after the first piece, the search tunes itself to pieces that are long enough.
+/// Reads the lines of an input into the block, as far as they are wanted. It writes the lines of a piece before it
+/// reads more, since the next read may wait. At the end the block holds at most the text of the last line. In a long
+/// run, or after the first piece, the search tunes itself to pieces of `LEAST_SAMPLE` bytes or more.
 pub fn read_lines<'a, I: ByteIn, W: ByteOut>(
     request: &Request<'a>,
     is_long_run: bool,

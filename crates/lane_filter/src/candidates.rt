@@ -11,8 +11,9 @@ use byte_lanes::{AnyOf, EndTest, Nibbles, below_bit, from_bit, skip_unmarked, sp
 use nib_mask::ByteMasks;
 use std::marker::Model;
 
-/// Bytes. A longer text that has fewer than 64 ends to test together is tested one end after the other: its literals
-/// are compared far before their ends, which is rare.
+/// Bytes. A text up to this length is copied with zeros after it, so that 64 ends can be tested together. A longer text
+/// is too short for that only if a rare byte stands far before the end of its literal; it is tested one end after the
+/// other.
 const MOST_COPIED: usize = 128;
 
 /// The candidates among the ends tested together, up to `done`: bit k of `mask` is set where `first + k` is one.

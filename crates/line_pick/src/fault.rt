@@ -9,6 +9,7 @@ use thiserror::Error;
 /// Why lines are not emitted.
 #[derive(Clone, Copy, Debug, PartialEq, Eq, Error)]
 pub enum Fault {
+    /// A growth was refused.
     #[error("out of memory")]
     OutOfMemory,
     /// The sink could not write a line.

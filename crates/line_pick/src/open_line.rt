@@ -15,9 +15,9 @@ pub(crate) struct Part {
     pub end: usize,
 }
 
-/// The part of an open line that decides it. Under -x this is a prefix that is longer than each pattern. Otherwise it
-/// is a literal that stands in the line, or where none does, the last bytes: a literal that goes on after them has no
-/// more.
+/// The part of an open line that decides it. Under -x it is a prefix that is longer than each pattern. Otherwise it is
+/// the bytes before the first end of a literal. If no literal ends in the line, it is the last bytes, since a literal
+/// that ends further on has no more bytes in the line so far.
 pub(crate) fn deciding_part(search: &mut LineSearch<'_>, line: &[u8]) -> Part
     requires { IsByPlan search.old }
     ensures same { search.new ≡ search.old }

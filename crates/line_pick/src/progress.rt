@@ -26,7 +26,7 @@ pub(crate) struct Progress {
     pub has_bytes: bool,
     /// Whether lines are numbered. Where they are not, those that are passed over are not counted.
     pub is_numbered: bool,
-    /// How many lines were ended, if they are numbered, and else no more than that.
+    /// Ended lines; without numbers, a lower bound.
     pub lines: u64,
     /// How many bytes there were.
     pub bytes: u64,

@@ -6,7 +6,9 @@ use crate::fault::Fault;
 /// Whether a sink wants more lines.
 #[derive(Clone, Copy, Debug, PartialEq, Eq)]
 pub enum Next {
+    /// It wants more lines.
     More,
+    /// It wants no more lines.
     Stop,
 }
 

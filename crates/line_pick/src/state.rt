@@ -8,11 +8,13 @@ use crate::sink::Next;
 /// Whether a picker still emits lines.
 #[derive(Clone, Copy, Debug, PartialEq, Eq)]
 pub enum State {
+    /// It still emits lines.
     Running,
     /// The sink wanted no more lines.
     Stopped,
     /// The last line was emitted.
     Finished,
+    /// Emitting failed. Each later call returns this fault.
     Failed(Fault),
 }
 

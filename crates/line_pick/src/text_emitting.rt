@@ -68,8 +68,9 @@ pub(crate) fn emit_text<S: Sink>(
     emitted
 }
 
-/// Emits the lines that hold a literal, or under -x those that are one, or under -v the others, searching for hits
-/// first. Under -x a hit costs as much as splitting `hit_bytes` bytes.
+/// Emits the selected lines by a search for hits: lines that hold a literal, under -x lines that are one, under -v the
+/// others. Under -x a hit costs as much as splitting `hit_bytes` bytes; once hits cost too much, the rest is split line
+/// by line.
 fn emit_hits<S: Sink>(
     hits: &mut HitLines<'_>,
     rule: LineRule,
@@ -103,7 +104,8 @@ fn emit_hits<S: Sink>(
     emit_all(rule.invert, hits.rest(), lines, is_numbered, sink)
 }
 
-/// The credit after a hit under -x: more by the text that the search passed over, less by the cost of a hit.
+/// The credit after a hit under -x. It grows by the bytes that the search passed over, up to a bound, and falls by the
+/// cost of a hit.
 #[inline(always)]
 fn credit_after(hit_bytes: usize, credit: usize, missed: &[u8]) -> usize {
     let gained = credit.saturating_add(missed.len());

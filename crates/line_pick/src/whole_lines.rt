@@ -10,7 +10,7 @@ use list_index::ListIndex;
 use lit_base::{Fold, fold_byte};
 use std::marker::Model;
 
-/// How many lengths are distinguished: all from this one less 1 on count as one.
+/// The number of classes of lengths: all lengths from `LENGTHS - 1` on are one class.
 const LENGTHS: usize = 16;
 
 /// An entry for each length and each first byte.

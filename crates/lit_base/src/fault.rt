@@ -9,6 +9,7 @@ use thiserror::Error;
 /// Why a list of literals is refused.
 #[derive(Clone, Copy, Debug, PartialEq, Eq, Error)]
 pub enum Fault {
+    /// A growth was refused.
     #[error("out of memory")]
     OutOfMemory,
     /// More raw patterns than `MAX_PATTERNS`.

@@ -14,7 +14,7 @@ pub enum Fault {
     /// The text is wrong at this line, from 1.
     #[error("line {line} of the certificate is wrong")]
     BadCertText { line: u32 },
-    /// A read failed, or 2^40 turns passed.
+    /// A read failed.
     #[error("a read failed")]
     ReadFault,
     /// A write failed, or took nothing.

@@ -10,6 +10,7 @@ use thiserror::Error;
 /// Why a plan is refused, or a scan stops.
 #[derive(Clone, Copy, Debug, PartialEq, Eq, Error)]
 pub enum Fault {
+    /// A growth was refused.
     #[error("out of memory")]
     OutOfMemory,
     /// The certificate does not show that its grouping is the cheapest.

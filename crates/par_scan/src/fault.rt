@@ -9,6 +9,7 @@ use thiserror::Error;
 /// Why a scan by several workers stops.
 #[derive(Clone, Copy, Debug, PartialEq, Eq, Error)]
 pub enum Fault {
+    /// A growth was refused.
     #[error("out of memory")]
     OutOfMemory,
 }

@@ -63,7 +63,7 @@ pub fn scan_parts<R: Threads + Sync, G: Gate>(
     Ok(hits)
 }
 
-/// The part of the last worker, out of `len` bytes, where all take as many bytes, or one more.
+/// How many of `len` bytes the last worker scans. The parts of all workers differ by one byte at most.
 fn last_part(len: usize, workers: usize) -> usize
     requires { 1 ≤ workers }
     ensures most { workers * result ≤ len }

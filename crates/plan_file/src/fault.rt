@@ -53,7 +53,7 @@ pub enum Fault {
     /// The file is wrong at this byte, from 0.
     #[error("byte {place} of the plan file is wrong: {cause}")]
     BadPlanFile { place: usize, cause: Cause },
-    /// A read failed, or 2^40 turns passed.
+    /// A read failed.
     #[error("a read failed")]
     ReadFault,
     /// A write failed, or took nothing.

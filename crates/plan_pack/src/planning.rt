@@ -18,6 +18,10 @@ use run_planner::Fault;
 use std::alloc::Global;
 
 /// The plan of a file's patterns, ready for a scan.
+///
+/// # Errors
+/// - `Refused` as `list_of` refuses, or with `NoLiterals`, where no pattern has a byte.
+/// - `OutOfMemory`, where a growth was refused.
 pub fn plan_of<'a, F: Files>(
     alloc: Global,
     reading: Reading,

@@ -16,8 +16,13 @@ use lit_base::{Fault, LitList, Normal};
 use plan_file::read_plans;
 use std::alloc::Global;
 
-/// The list of a file of patterns, which is read to its end unless it is too large; `-` is standard
-/// input.
+/// The list of a file of patterns, which is read to its end unless it is too large; `-` is standard input.
+///
+/// # Errors
+/// - `Refused` with the file's name, where it cannot be opened or read; with the first line that should be hexadecimal
+/// and is not; or with the fault of the first pattern that is refused. A file longer than its notation allows is
+/// refused as `ListTooLarge`.
+/// - `OutOfMemory`, where a growth was refused.
 pub fn list_of<'a, F: Files>(
     alloc: Global,
     reading: Reading,
@@ -39,6 +44,9 @@ pub fn list_of<'a, F: Files>(
 }
 
 /// The list of a file of patterns, and where each pattern stands in it.
+///
+/// # Errors
+/// The errors of `list_of`.
 pub fn placed_list_of<'a, F: Files>(
     alloc: Global,
     reading: Reading,
@@ -100,6 +108,11 @@ fn listed(alloc: Global, reading: Reading, text: &[u8]) -> Result<(LitList, Norm
 }
 
 /// The plans of a plan file, which is read to its end; `-` is standard input.
+///
+/// # Errors
+/// - `Refused` with the file's name, where it cannot be opened or read; or with the first wrong field, where it is no
+/// plan file.
+/// - `OutOfMemory`, where a growth was refused.
 pub fn plans_of<'a, F: Files>(
     alloc: Global,
     file: &'a str,
@@ -138,7 +151,11 @@ fn plans_from<'a, I: ByteIn>(
     }
 }
 
-/// The whole text of an operand.
+/// The whole text of an operand; `-` is standard input.
+///
+/// # Errors
+/// - `Refused` with the operand, where it cannot be opened or read.
+/// - `OutOfMemory`, where a growth was refused.
 pub fn text_of<'a, F: Files>(
     alloc: Global,
     operand: &'a str,

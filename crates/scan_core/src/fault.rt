@@ -9,6 +9,7 @@ use thiserror::Error;
 /// Why a request is given up.
 #[derive(Clone, Copy, Debug, PartialEq, Eq, Error)]
 pub enum Fault {
+    /// A growth was refused.
     #[error("out of memory")]
     OutOfMemory,
 }

@@ -29,7 +29,7 @@ pub(crate) fn planned(
     compiled(alloc, list, profile)
 }
 
-/// The literals as a list. They meet no refusal, so that only memory can be wanting.
+/// The literals as a list. The session has checked them, so only memory can run out.
 fn raw_of(alloc: Global, literals: &[Vec<u8>]) -> Result<RawList, Fault>
     ensures ok { IfOk result (λ raw. raw ≡ texts_of literals.now) }
     ensures fault { IsOkUnless result OutOfMemory }

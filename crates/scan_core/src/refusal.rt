@@ -77,8 +77,7 @@ impl Refusal {
     }
 }
 
-/// Why a Publish of literals is refused, in a session that has published `plan_count` plans. No refusal is for a normal
-/// form with too many literals: it has no more than there were patterns.
+/// Why a Publish of literals is refused, in a session that has published `plan_count` plans.
 pub(crate) fn refusal_of_literals(plan_count: usize, literals: &[Vec<u8>]) -> Option<Refusal>
     ensures { result ≡ publish_refusal plan_count (texts_of literals.now) }
 {

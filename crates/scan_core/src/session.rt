@@ -172,9 +172,9 @@ impl<'s> Session<'s> {
         Ok(Reply::Published { number })
     }
 
-    /// The reply to an Open, which binds the stream to the plan of the number. It finds each number of a plan that this
-    /// session published, or has a stream open by, and each number of `loaded`, tickets of its store. The only fault is
-    /// `OutOfMemory`, where the number was found and nothing is refused: it comes with a ticket of the number.
+    /// Opens a stream by the plan of a number, and returns the reply. It always finds the number of a plan that this
+    /// session published, or by which it has an open stream, and the number of each of `loaded`, tickets of its store.
+    /// The only fault is `OutOfMemory`, with a ticket of the number; it comes only if nothing is refused.
     pub fn open(
         &mut self,
         alloc: Global,

@@ -62,7 +62,7 @@ impl TicketFinder {
 #[derive(Drop)]
 pub(crate) struct SessionFinder {
     own: Option<TicketFinder>,
-    /// How many bytes streams of other plans were fed since one of its own was.
+    /// How many bytes were fed to long streams of other plans since a stream of its own plan was fed.
     strange: usize,
 }
 
@@ -87,9 +87,9 @@ impl SessionFinder {
         }
     }
 
-    /// Prepares for a feed of `count` bytes to a stream by the plan of a ticket, which has come to a place. If that is
-    /// far enough to tune a finder, there is one by the plan then, unless a finder of another plan is in use. Without
-    /// memory for it the stream is scanned without.
+    /// Prepares for a feed of `count` bytes to a stream by the plan of a ticket. `place` is the stream's position. From
+    /// `LEAST_WITH_FINDER` on there is a finder by this plan, unless a finder of another plan is in use, the plan has
+    /// too few literals, or memory is short. Without a finder the stream is scanned by the plan alone.
     pub(crate) fn prepare(
         &mut self,
         alloc: Global,

@@ -20,7 +20,9 @@ use std::thread::{Threads, join};
 /// A session after a request, and the replies.
 #[derive(Drop)]
 pub struct Answered<'s> {
+    /// The session after the request.
     pub session: Session<'s>,
+    /// The replies to the request, in order.
     pub replies: Vec<Reply>,
 }
 
@@ -51,8 +53,8 @@ pub fn answered_at_once<'s, R: Threads + Wait + Sync>(
     Ok((first, second))
 }
 
-/// Both values, or the first fault. It is generic so that its proof is short: that a type parameter is dropped is one
-/// step of it, that an `Answered` is dropped would be dozens.
+/// Both values, or the first fault. It is generic to keep its proof short: to drop a type parameter takes the proof one
+/// step, to drop an `Answered` dozens.
 fn both<T: Drop>(first: Result<T, Fault>, second: Result<T, Fault>) -> Result<(T, T), Fault>
     ensures first { IfOk result (λ met. first ≡ Ok met.0) }
     ensures second { IfOk result (λ met. second ≡ Ok met.1) }
@@ -123,8 +125,8 @@ fn shows_sound(store: &PlanStore, ticket: &Ticket)
     store.at(ticket).list().normal_law();
 }
 
-/// The law that events of sessions which each meet an entry of one set, with one plan a number, are a run
-/// of one world, in whatever order they stand: `world_law` speaks of them together.
+/// The law of events of several sessions, in any order. If the entries that they meet are of one set, with one plan for
+/// each number, then the events are a run of one world. So `world_law` holds of them together.
 pub fn together_law()
     ensures { TogetherLaw }
 {}

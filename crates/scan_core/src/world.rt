@@ -2,8 +2,8 @@
 ghost use Rattle.scan_core.specs.Carried.{EventLaw};
 ghost use Rattle.scan_core.specs.Worlds.{WorldLaw};
 
-/// The law that what a session does by what its scanners keep, it does by all bytes that its streams
-/// were fed: with the same replies, and by the same entry.
+/// The law that a session needs no more bytes of its streams than its scanners keep. A step by the kept bytes is also a
+/// step by all bytes that the streams were fed, with the same replies and the same entry.
 pub fn event_law()
     ensures { EventLaw }
 {}

@@ -39,7 +39,7 @@ impl Outbox {
         }
     }
 
-    /// Adds a reply, and writes all that waits once that is much.
+    /// Adds a reply. Once `FULL` bytes or more wait, it writes all of them.
     ///
     /// After an `Err` a prefix of all was written, never all, and the outbox is of no use any more.
     pub fn push<W: ByteOut>(&mut self, out: &mut W, reply: &Reply) -> Result<(), Stop>
@@ -58,7 +58,7 @@ impl Outbox {
         self.flush_full(out)
     }
 
-    /// Adds a reply with these hits, and writes all that waits once that is much.
+    /// Adds a reply with these hits. Once `FULL` bytes or more wait, it writes all of them.
     ///
     /// After an `Err` a prefix of all was written, never all, and the outbox is of no use any more.
     pub fn push_hits<W: ByteOut>(

@@ -39,8 +39,8 @@ pub(crate) fn fill_all(list: &LitList, buckets: &[u8], entries: &mut Vec<u64>)
     leave_case_out(entries, (case_bits(list.fold()) >> 48) as usize);
 }
 
-/// Clears the bits of an entry for which its bytes say nothing: of ends too far ahead of them for some literal's
-/// length.
+/// Clears the bits of ends that an entry's bytes say nothing about: they lie so far ahead that some literal of the
+/// bucket does not reach back to these bytes.
 fn without_short(entry: u64, list: &LitList, buckets: &[u8]) -> u64
     requires { length buckets.now ≡ length list.now.texts }
     ensures { IsCleared entry result (IsPass list.now buckets.now IsShort (length list.now.texts)) }
@@ -112,8 +112,9 @@ fn let_through(entries: &mut Vec<u64>, fold: Fold, literal: &[u8], bucket: usize
     }
 }
 
-/// The first entry that a literal fits which ends `ahead` positions after the entry's bytes, and how many in a row it
-/// fits: the entry of two of its bytes, or those of its first byte after any other byte.
+/// The entries that a literal fits if it ends `ahead` positions after their bytes: the first of them, and how many
+/// stand in a row. That is one entry, of two bytes of the literal. If only the literal's first byte stands there, it is
+/// 256 entries: this byte after any byte.
 fn fitting(fold: Fold, literal: &[u8], ahead: usize) -> (usize, usize)
     requires { ahead < length literal.now }
     ensures inside { result.0 + result.1 ≤ ENTRIES }

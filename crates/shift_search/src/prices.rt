@@ -45,8 +45,8 @@ pub(crate) fn estimate<const STEP: usize>(entries: &[u64], sample: &[u8], rate: 
     cost_of::<STEP>(1024, ends.saturating_sub(rate.ends), rate)
 }
 
-/// How many of some ends in a sample are not ruled out at this step, counted for each bucket, and how many ends these
-/// are. They are the last of eight ends, which all probes that cover them have judged.
+/// How many ends of a sample are not ruled out at this step, counted for each bucket, and how many ends were tried. Of
+/// eight ends in a row only the last one is tried, at step 2 the last two: all probes that cover them were made.
 fn count_unruled<const STEP: usize>(entries: &[u64], sample: &[u8]) -> (usize, usize)
     requires { length entries.now ≡ ENTRIES }
 {

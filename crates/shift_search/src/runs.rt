@@ -4,17 +4,17 @@ ghost use Rattle.std.specs.Prelude.{◌≡◌, ◌≤◌, length, vec_len};
 use crate::entries::BUCKETS;
 use lit_base::LitList;
 
-/// By the length of a bucket's shortest literal, from 0 bytes on. The bucket's weight is this, times the cube of its
-/// number of literals. It falls by a factor of five for each byte, which is one more probe that may rule an end out, up
-/// to the number of probes.
+/// Weights by the length of a bucket's shortest literal, from 0 bytes on. A bucket's weight is this number times the
+/// cube of how many literals it has. With each further byte one more probe may rule an end out, so the weight falls by
+/// a factor of five, up to the nine bytes that eight probes read.
 const WEIGHTS: [usize; 10] = [
     1_953_125, 390_625, 78_125, 15_625, 3_125, 625, 125, 25, 5, 1,
 ];
 
-/// Gives each literal of a list a bucket: runs in their order by length, cut where the gain in weight is greatest. A
-/// bucket leaves an end if each probe matches one of its literals. This is more frequent the more literals it has, and
-/// the shorter its shortest literal is. Measured on one seed with lists of 100 to 1,000 words of a text: 0.02 to 0.8
-/// times the false positives of equal runs.
+/// Gives each literal of a list a bucket: runs in their order by length, cut where the gain in weight is greatest. An
+/// end of a bucket is not ruled out if each probe fits one of the bucket's literals. That is more frequent with more
+/// literals, and with a shorter shortest literal. Measured on one seed with lists of 100 to 1,000 words of a text: 0.02
+/// to 0.8 times the false positives of equal runs.
 pub fn cut_runs(list: &LitList, buckets: &mut Vec<u8>)
     requires { vec_len buckets.old ≡ length list.now.texts }
     ensures { vec_len buckets.new ≡ vec_len buckets.old }

@@ -26,8 +26,8 @@ use std::simd::prelude::*;
 use std::sync::Arc;
 use text_ends::EndRate;
 
-/// Bytes at the start of a text that are searched without probes. After them, eight positions can be probed before the
-/// first end, with eight bytes before each.
+/// Bytes at the start of a text that are searched without probes. Before the first end after them, eight positions can
+/// be probed, each with eight bytes before it.
 const FIRST: usize = 15;
 
 /// The distance of the positions that a search probes.
@@ -284,8 +284,9 @@ impl ShiftOr {
         self.next_by_eights::<STEP>(entries, text, start, at, last_of(before), false_positives)
     }
 
-    /// Continues after probes that left no end, block by block while nothing ends in a block and some groups are noted.
-    /// Returns the last position, and what the last probes rule out after it.
+    /// Continues block by block from a position up to which nothing ends. It stops before a block in which a literal
+    /// ends, after a block whose ends are all ruled out, and near the end of the text. Returns the last position, and
+    /// what the last probes rule out after it.
     #[inline(never)]
     fn pass_blocks<const STEP: usize>(
         &self,

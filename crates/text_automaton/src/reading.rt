@@ -13,7 +13,7 @@ const LANES: usize = 4;
 /// The number of positions read at once, if the text has as many.
 pub(crate) const BLOCK: usize = 4096;
 
-/// Room for their states, and for those that are compared beside the last of them.
+/// Room for the states of a block. A comparison of `STATES` states may read past the last of them.
 pub(crate) const ROOM: usize = BLOCK + STATES;
 
 /// The states of some positions of a text, and how many of them are passed.

@@ -5,7 +5,9 @@ ghost use Rattle.std.specs.Prelude.{◌≡◌};
 /// single ends begins anew after each, a scan after none.
 #[derive(Clone, Copy, Debug)]
 pub struct EndRate {
+    /// Positions at which a literal ends.
     pub ends: usize,
+    /// Ends after which the search began anew.
     pub starts: usize,
 }
 

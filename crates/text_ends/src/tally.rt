@@ -5,7 +5,8 @@ ghost use Rattle.std.specs.Int.RustNames.{count_ones};
 /// The counters of a search.
 #[derive(Clone, Copy, Debug)]
 pub struct Tally {
-    /// Positions that passed the prefilter. Searches by factors alone count them.
+    /// Positions that passed the masks of the factors. Only a search by factors counts them; those at the border of two
+    /// blocks may be counted twice.
     pub passed: usize,
     /// Candidates and pending ends at which no literal ends. A search by factors counts each pending end when its block
     /// is probed, and takes it off again where a literal ends.
@@ -27,7 +28,7 @@ impl Tally {
         }
     }
 
-    /// Counts the positions in `mask`, which passed the prefilter.
+    /// Counts the positions whose bits are set in `mask`: they passed the masks of the factors.
     #[inline(always)]
     pub fn pass(&mut self, mask: u64)
         ensures { self.new ≡ record self.old { passed = min (self.old.passed + count_ones mask) (2 ^ 64 - 1) } }

@@ -9,7 +9,7 @@ use crate::counting::{
 use crate::tuning::{MOSTLY_EMPTY, SAMPLE, SHORT_LINE};
 use memchr::{memchr, memrchr};
 
-/// Whether the first lines of a text are short. A text of fewer bytes than the sample has none that count.
+/// Whether the first lines of a text are short. False for a text shorter than the sample.
 pub fn has_short_lines(text: &[u8]) -> bool {
     lines_in_sample(text) > SAMPLE / SHORT_LINE
 }
@@ -79,8 +79,11 @@ pub(crate) fn split_near_line(text: &[u8]) -> Option<(&[u8], &[u8])>
 /// A line, the text after its newline, and a mask of the newlines in the first bytes of this text.
 #[derive(Drop)]
 pub struct CutLine<'t> {
+    /// The line, without its newline.
     pub line: &'t [u8],
+    /// The text after the newline.
     pub after: &'t [u8],
+    /// Bit k is set where byte k of that text is known to be a newline.
     pub newlines: u64,
 }
 

@@ -16,6 +16,7 @@ use std::marker::Model;
 pub struct HitLine<'t> {
     /// The lines before it; none of them holds a literal.
     pub missed: &'t [u8],
+    /// The line, without its newline.
     pub line: &'t [u8],
     /// What stands after its newline.
     pub after: &'t [u8],

@@ -6,14 +6,15 @@ use crate::tuning::{
 };
 use text_ends::EndRate;
 
-/// The cost of a search by the plan without its prefilter: `missed` false positives, and `ends` ends of a scan. Ends
-/// that stand apart cost more than by factors.
+/// The cost of `missed` false positives and of `ends` ends of a scan under the prefilter; the filter itself is not
+/// included. Where ends stand apart, an end costs more than by factors; the price is the difference.
 pub(crate) fn cost_by_prefilter(missed: usize, ends: usize) -> usize {
     let misses = missed.saturating_mul(CANDIDATE_COST);
     misses.saturating_add(ends.saturating_mul(PREFILTER_END_COST))
 }
 
-/// The extra cost of dense ends by factors, for 1,024 bytes. It is 0 if they stand apart.
+/// The extra cost of dense ends by factors or shift-or, for 1,024 bytes. It is 0 if ends stand apart, or if the search
+/// begins anew after some of them.
 pub(crate) fn cost_of_dense_ends(rate: EndRate) -> usize {
     if rate.starts == 0 && rate.ends >= 1024 / DENSE {
         rate.ends.saturating_mul(PREFILTER_END_COST)

@@ -294,7 +294,8 @@ impl Strategy {
         }
     }
 
-    /// The measured cost of 1,024 bytes since the last choice.
+    /// The measured cost of 1,024 bytes since the last choice. Under the prefilter only false positives and ends are
+    /// noted, so the filter is charged by its price, `MASKS_COST`.
     fn taken(&self) -> usize {
         let taken = self.measured.cost.saturating_mul(1024) / self.measured.bytes.max(1);
         if self.is_tuned() {

@@ -12,8 +12,8 @@ pub const MOST_WITHOUT_FINDER: usize = 3;
 /// Literals. A list of at most this length is tuned by the smaller sample, which shows its rare factors. Not varied.
 pub(crate) const MOST_BY_SMALL_SAMPLE: usize = 32;
 
-/// Literals. A longer list is not searched for by factors: with more literals most positions pass the masks. Measured:
-/// of 1,000 literals, 100 of them short, a third.
+/// Literals. A longer list is not searched for by factors: too many positions pass its masks. Measured with 1,000
+/// literals, 100 of them short: a third of the positions pass.
 pub(crate) const MOST_BY_FACTORS: usize = 128;
 
 /// Literals. The plan's masks serve lists of at most this length well: two for each bucket. Not varied.
