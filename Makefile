@@ -1,16 +1,17 @@
 # Builds the programs into bin/, tests and installs them. Only a proved program is built: the first build proves each
-# crate below it, which takes 17 to 35 minutes on four processors; later ones prove only what changed.
+# crate below it, which takes 17 to 34 minutes on four processors; later ones prove only what changed.
 #
 #   make                    the programs, in bin/, for the processor level of this machine; -j proves crates side by side
 #   make CPU=x86-64-v2      the same for any processor of the last fifteen years
 #   make VERBOSE=1          the programs, with the prover's output as it comes
-#   make check              proves and tests everything from nothing, then runs the tests of the programs that this built
+#   make check              proves and tests everything, the first time from nothing, then runs the tests of the programs
+#                           that this built
 #   make test               the programs' tests alone, over what `make` builds
 #   make dist               packs the programs into dist/ for machines without the kit; it needs a processor of level x86-64-v3
 #   make check-deploy       tries what is in clients/, tools/ and deploy/, with Debian's packages, on this machine
 #   make check-dist         makes dist/, installs the package in a bare Debian, uses it and purges it; as root
-#   make sweep              refuses each growth, read, write and thread of the programs and of the crates' tests; `make test`
-#                           draws a sample of them
+#   make sweep              refuses each growth, read, write and thread of the programs, and growths of the crates' tests;
+#                           `make test` draws a sample of them
 #   make mutants            tries every wrong body that the contracts are to refuse, for more than an hour
 #   make soak MINUTES=..    the scan server under load, hostile connections among it, for some minutes
 #   make bench              the programs that measure, in bin/

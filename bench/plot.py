@@ -12,7 +12,7 @@ LEFT, RIGHT = 290, 780
 LEAST, MOST = -3.0, 5.0
 AHEAD, BEHIND = ("#1b7f4b", "#7cc7a0"), ("#b3372b", "#e39a92")
 SUMMARY = ["log: one rare", "log: -n frequent", "log: -f 100 rare", "english: -i -f 1000 rare", "log: -x -f 1000",
-           "10,000 small files"]      # the rows that README shows
+           "10,000 small files"]      # six of the eight rows that README shows
 HERE = os.path.dirname(os.path.abspath(__file__))
 
 

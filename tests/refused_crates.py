@@ -1,5 +1,5 @@
 #!/usr/bin/env python3
-"""Runs the tests of crates with each of their growths of memory refused, and prints a table.
+"""Runs the tests of crates with growths of their memory refused, and prints a table.
 
     python3 tests/refused_crates.py [CRATE..]
 

@@ -21,7 +21,7 @@ from support.servers import COSTLIEST, NEEDED, NO_END, SCAND, SECONDS, SERVER, e
 # The room of a read: the server holds the frame that has begun, up to a multiple of this number of its bytes.
 ROOM = 4096
 SESSIONS = 10000
-# Sessions of a client of release 0.1, and the replies of its server.
+# Sessions of a client of version 0.1.0, and the replies of its server.
 FIRST_RELEASE = os.path.join(TOP, "tests", "cases", "frames_0_1")
 
 
@@ -115,7 +115,7 @@ def recorded(name):
 
 
 def first_release():
-    """A client of release 0.1, which knows nothing of sixteen buckets, gets the replies that it got then."""
+    """A client of version 0.1.0, which knows nothing of sixteen buckets, gets the same replies as from that version."""
     for name, ending in ("bad_frame", "bad"), ("cat", "clean"), ("cut", "truncated"), ("refusals", "clean"), ("two_plans", "clean"):
         text, replies = recorded(f"{name}.requests"), recorded(f"{name}.replies")
         got, ended = conversation(text)

@@ -1,4 +1,5 @@
-"""The constants of the search: every price and threshold of a crate stands in its tuning.rt, with how it was chosen."""
+"""The constants of the search: every price and threshold of a crate stands in its tuning.rt, with how it was chosen, or
+that this is not recorded."""
 
 import os
 import re

@@ -64,9 +64,10 @@ class BadReply(FiolarguError):
 
 
 class Refused(FiolarguError):
-    """The library or the server refused a call, and changed nothing. `detail` is a position, counted from 0: of a literal
-    that is empty or too long, or of the first wrong byte of a plan file. It is a `Cause` for a bad frame, and 0
-    otherwise. `stream` is the stream of the server's reply, and None for the library."""
+    """The library or the server refused a call, and changed nothing. But a `feed` of the library that runs out of
+    memory closes its stream. `detail` is a position, counted from 0: of a literal that is empty or too long, or of the
+    first wrong byte of a plan file. It is a `Cause` for a bad frame, and 0 otherwise. `stream` is the stream of the
+    server's reply, and None for the library."""
 
     def __init__(self, code: int, detail: int = 0, stream: Optional[int] = None) -> None:
         self.code, self.detail, self.stream = code, detail, stream
