@@ -1,5 +1,5 @@
 -- The known sources of an opener, from one ask to the next.
-use Rattle.std.proofs.Common.{◌≡◌, ℕ, true, false, cond, List, [], ◌∷◌, ◌++◌, All, Option, None, Some, IfSome, Ok, Err, refl, sym, ap, ◌∙◌, append_assoc, append-nil, lit<, arith}
+use Rattle.std.proofs.Common.{◌≡◌, ℕ, true, false, cond, List, [], ◌∷◌, ◌++◌, All, Option, None, Some, IfSome, Ok, Err, refl, lit<, arith}
 use Rattle.std.specs.Str.{bytes_eq}
 use Rattle.std.proofs.lemmas.List.Elements.{All-cons, All-tail}
 use Rattle.byte_io.specs.Devices.{Coming, IfKnown}
@@ -48,12 +48,6 @@ short-after (Named name) s h = record { named = short-rest name s.named h.named;
 short-after Standard s h = record { named = h.named; standard = short-after_first s.standard h.standard }
 short-after (Created name) s h = record { named = h.named; standard = h.standard }
 
--- an ask is added after the earlier asks
-after-asks : (a : Ask) (s : Sources) → (after a s).asks ≡ s.asks ++ a ∷ []
-after-asks (Named name) s = refl
-after-asks Standard s = refl
-after-asks (Created name) s = refl
-
 -- one ask after others
 pub after_all-append : (asks more : List Ask) (s : Sources) → after_all (asks ++ more) s ≡ after_all more (after_all asks s)
 after_all-append [] more s = refl
@@ -61,11 +55,6 @@ after_all-append (a ∷ asks) more s = after_all-append asks more (after a s)
 
 pub after_all-one : (asks : List Ask) (a : Ask) (s : Sources) → after_all (asks ++ a ∷ []) s ≡ after a (after_all asks s)
 after_all-one asks a s = after_all-append asks (a ∷ []) s
-
--- several asks are added after the earlier asks
-pub after_all-asks : (asks : List Ask) (s : Sources) → (after_all asks s).asks ≡ s.asks ++ asks
-after_all-asks [] s = sym (append-nil s.asks)
-after_all-asks (a ∷ asks) s = after_all-asks asks (after a s) ∙ ap (λ l. l ++ asks) (after-asks a s) ∙ append_assoc s.asks (a ∷ []) asks
 
 -- what holds of the content of an input that was opened holds of its source
 opened-here : {I : Type 0} (f : I → Option Coming) (input : I) (source : Option Content) (R : Option Content → Type 0)

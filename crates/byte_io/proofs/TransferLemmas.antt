@@ -5,8 +5,8 @@ use Rattle.std.proofs.Math.Seq.{take-append-add}
 use Rattle.std.specs.Io.KnownBytes.{Appends, Keeps}
 use Rattle.std.proofs.KnownBytes.{Appends-nil, Appends-trans, Appends-kept}
 use Rattle.byte_io.specs.declared.device.Failed.{Failed}
-use Rattle.byte_io.specs.Devices.{Faulty, Coming, EndsHere, Gives, MayFail, ReadGives, IfKnown}
-use Rattle.byte_io.specs.Transfers.{AppendsPart, FaultFollows, ReadsAll, ReadsInto}
+use Rattle.byte_io.specs.Devices.{Coming, Gives, ReadGives, IfKnown}
+use Rattle.byte_io.specs.Transfers.{AppendsPart, FaultFollows, ReadsInto}
 use Rattle.byte_io.proofs.KnownLemmas.{IfKnown-then, IfKnown-weaker}
 
 -- a fact that holds whatever is answered
@@ -62,34 +62,6 @@ ReadsInto-more {a} {b} c {xs} {ys} {zs} r s = record {
   text = s.text ∙ ap (λ l. l ++ s.bytes) r.text ∙ append_assoc xs r.bytes s.bytes;
   given = Gives-trans a b c r.bytes s.bytes r.given s.given;
 }
-
--- a fact on the last known value
-pub IfKnown-last : (P : Coming → Coming → Type 0) (a b c : Option Coming) (Q : Coming → Type 0) → IfKnown a b P → IfKnown b c (λ _ y. Q y) → IfKnown a c (λ _ y. Q y)
-IfKnown-last P a b c Q p q = IfKnown-then a b c P (λ _ y. Q y) (λ _ y. Q y) p q (λ x y z p q. q)
-
--- all bytes were read where a clean end stands after them
-pub ReadsInto-all : (a b : Option Coming) (xs ys : List ℕ) (limit : ℕ) → ReadsInto a b xs ys → IfKnown a b (λ _ y. EndsHere y) → length ys ≤ length xs + limit → IfSome a (ReadsAll limit xs ys)
-ReadsInto-all None b xs ys limit r end short = tt
-ReadsInto-all (Some x) None xs ys limit r end short = absurd end
-ReadsInto-all (Some x) (Some y) xs ys limit r end short =
-    let all : x.text ≡ r.bytes = r.given.text ∙ ap (λ l. r.bytes ++ l) end.text ∙ append-nil r.bytes in
-    record {
-      text = r.text ∙ ap (λ l. xs ++ l) (sym all);
-      short = omega (arith, ap length all, ap length r.text, length-append xs r.bytes);
-      ending = λ fault. end.ending (r.given.ending ∙ fault);
-    }
-
--- a fault follows where a read failed after the bytes that were read
-pub ReadsInto-fault : (a b : Option Coming) (xs ys : List ℕ) (limit : ℕ) → ReadsInto a b xs ys → IfKnown a b (λ _ y. MayFail y) → length ys ≤ length xs + limit → IfSome a (FaultFollows limit xs ys)
-ReadsInto-fault None b xs ys limit r end short = tt
-ReadsInto-fault (Some x) None xs ys limit r end short = absurd end
-ReadsInto-fault (Some x) (Some y) xs ys limit r end short =
-    let all : x.ending ≡ Faulty → x.text ≡ r.bytes = λ fault. r.given.text ∙ ap (λ l. r.bytes ++ l) (end.1 (r.given.ending ∙ fault)) ∙ append-nil r.bytes in
-    record {
-      ending = λ clean. end.0 (r.given.ending ∙ clean);
-      text = λ fault. r.text ∙ ap (λ l. xs ++ l) (sym (all fault));
-      short = λ fault. omega (arith, ap length (all fault), ap length r.text, length-append xs r.bytes);
-    }
 
 -- at least as many bytes were to come as were gained
 pub ReadsInto-many : (a b : Option Coming) (xs ys : List ℕ) (limit most : ℕ) → ReadsInto a b xs ys → most + length xs ≤ length ys → IfSome a (λ c. length c.text < most → FaultFollows limit xs ys c)

@@ -5,7 +5,6 @@ use Rattle.std.proofs.Math.Seq.{take-append-add}
 use Rattle.std.proofs.lemmas.List.Folds.{concat-append}
 use Rattle.std.proofs.lemmas.List.{append-nil, append_assoc, length-append, length-take, take-append-drop, take_at, drop_at, drop-append-le, drop-drop}
 use Rattle.lit_base.specs.Literals.{Literals}
-use Rattle.lit_base.specs.Occurrences.{Occurs}
 use Rattle.lit_base.specs.NextEnds.{NoEndAfter}
 use Rattle.flow_scan.specs.Tails.{AreAdded, AreSteps, GainsHits, last_bytes}
 use Rattle.text_ends.specs.HitsAfter.{AreHitsAfter}
@@ -21,16 +20,6 @@ added_after_all l text piece at found b added = record {
   members = λ place end. (
     λ inside. let w = (added.members place end).0 inside in (w.0, occurs_after_all l (carry_of l) text piece place (end - at) w.1),
     λ w. (added.members place end).1 (w.0, occurs_after_last l text piece place (end - at) b (omega (arith, w.0)) w.1),
-  );
-}
-
--- and the other way round
-pub added_after_last : (l : Literals) (text piece : List ℕ) (at : ℕ) (found : List (ℕ × ℕ)) → HasBounds l → AreAdded l text piece at found → AreAdded l (last_bytes (carry_of l) text) piece at found
-added_after_last l text piece at found b added = record {
-  rising = added.rising;
-  members = λ place end. (
-    λ inside. let w = (added.members place end).0 inside in (w.0, occurs_after_last l text piece place (end - at) b (omega (arith, w.0)) w.1),
-    λ w. (added.members place end).1 (w.0, occurs_after_all l (carry_of l) text piece place (end - at) w.1),
   );
 }
 

@@ -56,11 +56,6 @@ ending-any o name count emitted e any =
           ]
     ] e
 
--- lines that add nothing each add nothing together
-pub adds-none : (o : GrepOptions) (name : List ℕ) (emitted : List (ℕ × List ℕ)) → (o.quiet || o.list) ≡ true → flat_map (added_line o name) emitted ≡ []
-adds-none o name [] e = refl
-adds-none o name (x ∷ emitted) e = ap (λ t. t ++ flat_map (added_line o name) emitted) (none-wanted o.quiet o.list o.count (written_line o name x) e) ∙ adds-none o name emitted e
-
 -- one of the earlier lines is one of all
 pub any-after : (emitted more : List (ℕ × List ℕ)) → 0 < length emitted → has_any (emitted ++ more) ≡ true
 any-after emitted more some = lt-ltb 0 (length (emitted ++ more)) (omega (arith, length-append emitted more))

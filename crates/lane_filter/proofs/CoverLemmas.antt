@@ -1,5 +1,5 @@
 -- The prefilter of a list lets every occurrence through.
-use Rattle.std.proofs.Common.{◌≡◌, inl, inr, ℕ, ◌+◌, ◌-◌, ◌/◌, ◌%◌, ◌<◌, ◌≤◌, List, [], ◌∷◌, All, length, refl, subst, ap, ◌∙◌, arith}
+use Rattle.std.proofs.Common.{◌≡◌, inl, inr, ℕ, ◌+◌, ◌-◌, ◌%◌, ◌<◌, ◌≤◌, List, [], ◌∷◌, All, length, refl, subst, ap, arith}
 use Rattle.std.specs.Int.{bit_at}
 use Rattle.std.proofs.Math.Pow.{pow_mono}
 use Rattle.std.proofs.lemmas.Bool.{cases_eq}
@@ -33,12 +33,6 @@ pub few_sets : (l : Literals) (ends : List ℕ) (masks : Masks) (first : ByteMas
     → GivesFilterSets l ends (widened first)
 few_sets l ends masks first few sets part a b c la lb lc =
     omega (arith, part a b c la lb lc, sets a b c la lb lc, filter_set-lt l ends a b c few)
-
-pub two_sets : (l : Literals) (ends : List ℕ) (masks : Masks) (first last : ByteMasks) → GivesFilterSets l ends masks
-    → GivesPart (λ n. n % 256) masks first → GivesPart (λ n. n / 256) masks last → GiveFilterSets l ends first last
-two_sets l ends masks first last sets low high a b c la lb lc =
-    let set = sets a b c la lb lc in
-    (low a b c la lb lc ∙ ap (λ n. n % 256) set, high a b c la lb lc ∙ ap (λ n. n / 256) set)
 
 -- no occurrence goes past both halves of the tables
 two_cover : (l : Literals) (ends : List ℕ) (first last : ByteMasks) → IsCut 16 (length l.texts) ends → All (λ t. 0 < length t) l.texts

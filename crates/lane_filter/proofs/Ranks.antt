@@ -1,7 +1,7 @@
 -- The rarest place other than those chosen before: the place found among those tried so far.
-use Rattle.std.proofs.Common.{◌≡◌, ◌≢◌, ℕ, ◌+◌, ◌-◌, ◌<◌, ◌≤◌, List, length, get_or, inl, inr, sym, ap, ◌∙◌, arith}
+use Rattle.std.proofs.Common.{◌≡◌, ◌≢◌, ℕ, ◌+◌, ◌-◌, ◌<◌, ◌≤◌, List, get_or, inl, inr, arith}
 use Rattle.std.proofs.lemmas.Bool.{cases_eq}
-use Rattle.lane_filter.specs.Pairs.{AreUnlike, BytePair, IsOneOf}
+use Rattle.lane_filter.specs.Pairs.{BytePair, IsOneOf}
 
 -- of the places from start up to `place`, the one found costs `least`: 512 or more if it is the one chosen before, 256
 -- or more if it has the same byte; and less, if another place was tried, or one with another byte
@@ -10,57 +10,6 @@ pub record IsBeside (literal : List ℕ) (start place found chosen least : ℕ) 
   pub apart : (q : ℕ) → start ≤ q → q < place → q ≢ chosen → least < 512
   pub like : get_or literal found 0 ≡ get_or literal chosen 0 → 256 ≤ least
   pub unlike : (q : ℕ) → start ≤ q → q < place → get_or literal q 0 ≢ get_or literal chosen 0 → least < 256
-
--- one more place is tried, and costs less or not
-pub beside_more : (literal : List ℕ) (start place found chosen least cost : ℕ) → IsBeside literal start place found chosen least → least ≤ cost
-    → (chosen ≢ place → cost < 512) → (get_or literal place 0 ≢ get_or literal chosen 0 → cost < 256) → IsBeside literal start (place + 1) found chosen least
-beside_more literal start place found chosen least cost old stays apart unlike = record {
-  here = old.here;
-  apart = λ q from below other.
-      elim (cases_eq q place) [
-        | inl same ↦ omega (arith, stays, apart (λ e. other (same ∙ sym e)))
-        | inr before ↦ old.apart q from (omega arith) other
-      ];
-  like = old.like;
-  unlike = λ q from below other.
-      elim (cases_eq q place) [
-        | inl same ↦ omega (arith, stays, unlike (λ e. other (ap (λ i. get_or literal i 0) same ∙ e)))
-        | inr before ↦ old.unlike q from (omega arith) other
-      ];
-}
-
-pub beside_found : (literal : List ℕ) (start place found chosen least cost : ℕ) → IsBeside literal start place found chosen least → cost < least
-    → (chosen ≡ place → 512 ≤ cost) → (chosen ≢ place → cost < 512) → (get_or literal place 0 ≡ get_or literal chosen 0 → 256 ≤ cost)
-    → (get_or literal place 0 ≢ get_or literal chosen 0 → cost < 256) → IsBeside literal start (place + 1) place chosen cost
-beside_found literal start place found chosen least cost old falls here apart like unlike = record {
-  here = λ same. here (sym same);
-  apart = λ q from below other.
-      elim (cases_eq q place) [
-        | inl same ↦ apart (λ e. other (same ∙ sym e))
-        | inr before ↦ omega (arith, falls, old.apart q from (omega arith) other)
-      ];
-  like = like;
-  unlike = λ q from below other.
-      elim (cases_eq q place) [
-        | inl same ↦ unlike (λ e. other (ap (λ i. get_or literal i 0) same ∙ e))
-        | inr before ↦ omega (arith, falls, old.unlike q from (omega arith) other)
-      ];
-}
-
--- where all were tried, the place found is apart if there are two
-pub beside_apart : (literal : List ℕ) (start found chosen least : ℕ) → IsBeside literal start (length literal) found chosen least → start + 2 ≤ length literal → chosen ≢ found
-beside_apart literal start found chosen least is two same =
-    let here = is.here (sym same) in
-    elim (cases_eq start chosen) [
-      | inl first ↦ absurd (omega (arith, here, is.apart (start + 1) (omega arith) (omega arith) (λ e. absurd (omega (arith, e, first)))))
-      | inr other ↦ absurd (omega (arith, here, is.apart start (omega arith) (omega arith) other))
-    ]
-
--- and unlike if one is
-pub beside_unlike : (literal : List ℕ) (start found chosen least : ℕ) → IsBeside literal start (length literal) found chosen least
-    → ((q : ℕ) → q < length literal → length literal ≤ q + 256 → start ≤ q) → AreUnlike literal chosen found
-beside_unlike literal start found chosen least is last place inside near other same =
-    omega (arith, is.like same, is.unlike place (last place inside near) inside other)
 
 -- of the places from start up to `place`, the one found costs `least`: 256 or more if it is in the pair, and less if
 -- another was tried

@@ -1,10 +1,10 @@
 -- Where two literals end together the shorter is a suffix of the longer. So the first of several is the shortest suffix
 -- of each other.
-use Rattle.std.proofs.Common.{◌≡◌, ℕ, Bool, true, false, ◌+◌, ◌-◌, ◌<◌, ◌≤◌, List, [], Some, All, inl, inr, length, drop, get_or, replicate, set, slice_range, sym, ap, ◌∙◌, subst, arith}
+use Rattle.std.proofs.Common.{◌≡◌, ℕ, Bool, true, false, ◌+◌, ◌-◌, ◌<◌, ◌≤◌, List, [], Some, All, inl, inr, length, drop, get_or, set, slice_range, sym, ap, ◌∙◌, subst, arith}
 use native.Mathlib.Numerals.{unary_clauses}
 use Rattle.std.specs.List.{slice_get}
 use Rattle.std.proofs.lemmas.Bool.{cases_eq, cases_lt, true_from_ne_false}
-use Rattle.std.proofs.lemmas.List.{get_or-replicate, get_or-set_other, get_or-set_same, length-replicate, length-set}
+use Rattle.std.proofs.lemmas.List.{get_or-set_other, get_or-set_same, length-set}
 use Rattle.std.proofs.lemmas.Option.{get_or_from_slice_get, slice_get-get_or, slice_get_within}
 use Rattle.std.proofs.lemmas.Slice.{between_to_end}
 use Rattle.lit_base.specs.Folding.{folded_text}
@@ -98,14 +98,6 @@ pub record AreCleared (l : Literals) (count : ℕ) (flags : List Bool) : Type 0 
   pub all : length flags ≡ length l.texts
   pub cleared : (place longer : ℕ) → longer < count → IsShortestSuffix l place longer → get_or flags place false ≡ false
   pub only : (place : ℕ) → place < length l.texts → get_or flags place false ≡ false → IsSuffixOfSome l place
-
--- at first none has
-pub none_cleared : (l : Literals) → AreCleared l 0 (replicate (length l.texts) true)
-none_cleared l = record {
-  all = length-replicate (length l.texts) true;
-  cleared = λ place longer low. absurd (omega (arith, low));
-  only = λ place within flag. let set : true ≡ false = sym (get_or-replicate (length l.texts) place true false within) ∙ flag in (cc);
-}
 
 -- a literal that has no shortest suffix clears no flag
 pub same_cleared : (l : Literals) (count : ℕ) (flags : List Bool) → ((place : ℕ) → ¬ IsShortestSuffix l place count) → AreCleared l count flags → AreCleared l (count + 1) flags

@@ -1,61 +1,16 @@
 -- The walk along a chain, and the first literal by the widths, one after another.
-use Rattle.std.proofs.Common.{◌≡◌, ℕ, replicate, set, ◌+◌, ◌<◌, ◌≤◌, All, List, [], length, get_or, IfSome, MatchOption, Option, Some, None, inl, inr, sym, ap, ◌∙◌, subst, arith}
+use Rattle.std.proofs.Common.{◌≡◌, ℕ, ◌+◌, ◌<◌, ◌≤◌, All, List, [], length, get_or, IfSome, MatchOption, Option, Some, None, inl, inr, sym, ap, ◌∙◌, subst, arith}
 use Rattle.std.specs.List.Sorted.{IsNonDecreasing}
 use Rattle.std.proofs.lemmas.Bool.{cases_eq, cases_lt}
-use Rattle.std.proofs.lemmas.List.{get_or-replicate, get_or-set_other, get_or-set_same, length-map, length-replicate, length-set}
+use Rattle.std.proofs.lemmas.List.{length-map}
 use Rattle.std.proofs.lemmas.Option.{get_or_from_slice_get, slice_get_within}
-use Rattle.list_index.specs.Chains.{AreChainsOf, IsChained, IsFirstKeyed, IsNextWith, Reaches, hash_at, key_width_at}
+use Rattle.list_index.specs.Chains.{AreChainsOf, IsFirstKeyed, IsNextWith, Reaches, hash_at, key_width_at}
 use Rattle.lit_base.specs.Literals.{Literals, lengths, literal_at}
 use Rattle.lit_base.specs.Occurrences.{Occurs, NoneEnds, IsFirstEnding}
 use Rattle.list_index.specs.Suffixes.{suffix_key, hash_of}
 use Rattle.list_index.specs.declared.suffixes.chains.SuffixChains.{SuffixChains}
 use Rattle.lit_base.proofs.LengthLemmas.{length_at}
 use Rattle.list_index.proofs.SuffixLemmas.{AreBytes, key-occurs}
-
--- no number is chained yet
-pub chained_none : (value : ℕ → ℕ) (count room links : ℕ) → IsChained value count count (replicate room count) (replicate links count)
-chained_none value count room links = record {
-  head = λ wanted within. subst (IsNextWith value count wanted count) (sym (get_or-replicate room wanted count 0 (omega (arith, within, length-replicate room count))))
-      (record {
-        above = omega arith;
-        within = omega arith;
-        skipped = λ i low high. absurd (omega (arith, low, high));
-        has = λ inside. absurd (omega (arith, inside));
-      });
-  link = λ i low high. absurd (omega (arith, low, high));
-}
-
--- the number before the chained numbers is chained with them
-pub chained_more : (value : ℕ → ℕ) (count low : ℕ) (heads links : List ℕ) → low < count → value low < length heads → low < length links → IsChained value count (low + 1) heads links
-    → IsChained value count low (set heads (value low) low) (set links low (get_or heads (value low) 0))
-chained_more value count low heads links inside room links_room old = record {
-  head = λ wanted within. elim (cases_eq wanted (value low)) [
-    | inl same ↦ subst (IsNextWith value count wanted low) (sym (ap (λ w. get_or (set heads (value low) low) w 0) same ∙ get_or-set_same heads (value low) low 0 room))
-        (record {
-          above = omega arith;
-          within = omega (arith, inside);
-          skipped = λ i from before. absurd (omega (arith, from, before));
-          has = λ _. sym same;
-        })
-    | inr other ↦
-        let there = old.head wanted (omega (arith, within, length-set heads (value low) low)) in
-        subst (IsNextWith value count wanted low) (sym (get_or-set_other heads (value low) wanted low 0 other))
-        (record {
-          above = omega (arith, there.above);
-          within = there.within;
-          skipped = λ i from before. elim (cases_eq i low) [
-            | inl same ↦ λ is. other (sym is ∙ ap value same)
-            | inr later ↦ there.skipped i (omega (arith, from, later)) before
-          ];
-          has = there.has;
-        })
-  ];
-  link = λ i from high. elim (cases_eq i low) [
-    | inl same ↦ subst (λ k. IsNextWith value count (value k) (k + 1) (get_or (set links low (get_or heads (value low) 0)) k 0)) (sym same)
-        (subst (IsNextWith value count (value low) (low + 1)) (sym (get_or-set_same links low (get_or heads (value low) 0) 0 links_room)) (old.head (value low) room))
-    | inr later ↦ subst (IsNextWith value count (value i) (i + 1)) (sym (get_or-set_other links low i (get_or heads (value low) 0) 0 later)) (old.link i (omega (arith, from, later)) high)
-  ];
-}
 
 module _ (l : Literals) (text : List ℕ) (end width : ℕ) (chains : SuffixChains) (are : AreChainsOf l chains) (bytes : AreBytes text) (narrow : width ≤ 8) where
   -- where a literal with a key of this width ends, the text has the key kept of it

@@ -1,16 +1,15 @@
--- A text is a certificate's, or has one first bad line.
-use Rattle.std.proofs.Common.{◌≡◌, ℕ, zero, suc, ◌+◌, ◌-◌, ◌*◌, ◌^◌, ◌<◌, ◌≤◌, List, [], ◌∷◌, ◌++◌, length, get_or, take, drop, map, All, refl, sym, ap, ◌∙◌, append_assoc, inl, inr, arith}
+-- All lines of a certificate's text are right, and two certificates with one text are one.
+use Rattle.std.proofs.Common.{◌≡◌, ℕ, zero, suc, ◌+◌, ◌*◌, ◌^◌, ◌<◌, ◌≤◌, List, [], ◌∷◌, ◌++◌, length, get_or, take, drop, map, All, refl, sym, ap, ◌∙◌, append_assoc, arith}
 use Rattle.std.specs.List.{flat_map, join_with_byte}
 use Rattle.std.specs.Fmt.{decimal}
 use Rattle.std.proofs.Math.Seq.{take-add}
-use Rattle.std.proofs.lemmas.Bool.{cases_order}
 use Rattle.std.proofs.lemmas.Fmt.{decimal_injective}
 use Rattle.std.proofs.lemmas.List.{take-take, take-append-drop, take_all, drop_all, append-nil, append_cancel_right, get_or-map, length-take}
 use Rattle.std.proofs.lemmas.List.Elements.{All-take, All-drop, All-weaker, All-cons}
 use Rattle.std.proofs.lemmas.List.Concat.{flat_map-append}
 use Rattle.lit_cert.specs.Certificates.{CertificateNumbers}
 use Rattle.lit_cert.specs.Spelling.{literals_in, HasTextFor, HasEnds, ends_words, cost_words, row_words, lines_of, line_text, spelling_for}
-use Rattle.lit_cert.specs.Reading.{AreNumbers, IsRightFor, IsFirstBadFor}
+use Rattle.lit_cert.specs.Reading.{AreNumbers, IsRightFor}
 use Rattle.lit_cert.proofs.Rows.{row_at}
 use Rattle.lit_cert.proofs.RowLines.{same_numbers}
 use Rattle.lit_cert.proofs.Plain.{IsMost, plain_lines, same_lines}
@@ -40,15 +39,6 @@ fewer_lines most j k text le right =
             ∙ follows.whole (omega arith);
       },
     )
-
--- two first bad lines are one
-pub one_first_bad : (most j k : ℕ) (text : List ℕ) → IsFirstBadFor most text j → IsFirstBadFor most text k → j ≡ k
-one_first_bad most j k text a b =
-    elim (cases_order j k) [
-      | inl same ↦ same
-      | inr (inl below) ↦ absurd (a.wrong (fewer_lines most j (k - 1) text (omega arith) b.before))
-      | inr (inr above) ↦ absurd (b.wrong (fewer_lines most k (j - 1) text (omega arith) a.before))
-    ]
 
 -- all lines of a certificate's text are right
 pub right_lines : (most k : ℕ) (text : List ℕ) (c : CertificateNumbers) → HasTextFor most c → text ≡ spelling_for most c → IsRightFor most text k

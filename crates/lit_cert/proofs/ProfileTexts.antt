@@ -1,6 +1,6 @@
 -- Texts of either profile: the first line says which, and the first bad line after it is the same as for texts of this
 -- profile.
-use Rattle.std.proofs.Common.{◌≡◌, ◌≢◌, ℕ, suc, ◌+◌, ◌-◌, ◌<◌, ◌≤◌, List, [], ◌∷◌, ◌++◌, length, get_or, take, codes, refl, sym, ap, subst, ◌∙◌, append_assoc, inl, inr, ◌*◌, arith}
+use Rattle.std.proofs.Common.{◌≡◌, ◌≢◌, ℕ, ◌+◌, ◌-◌, ◌≤◌, List, [], ◌∷◌, ◌++◌, length, get_or, codes, refl, sym, ap, subst, ◌∙◌, append_assoc, inl, inr, ◌*◌, arith}
 use Rattle.std.proofs.lemmas.Bool.{cases_order}
 use Rattle.std.specs.List.{flat_map}
 use Rattle.std.proofs.lemmas.Fmt.{decimal_digit}
@@ -11,12 +11,12 @@ use Rattle.lit_base.specs.declared.profile.Profile.TheVariants.{Eight, Sixteen}
 use Rattle.lit_cert.specs.declared.fault.Fault.{Fault}
 use Rattle.lit_cert.specs.declared.fault.Fault.TheVariants.{OutOfMemory, BadCertText, ReadFault, WriteFault}
 use Rattle.lit_cert.specs.Certificates.{CertificateNumbers, CertificateParts, numbers_of}
-use Rattle.lit_cert.specs.Spelling.{HasText, HasTextFor, head_lines, line_text, lines_of, literals_words, ends_words, cost_words, spelling, spelling_for, version_words}
-use Rattle.lit_cert.specs.Reading.{Follows, IsBadRow, IsBadText, IsFirstBad, IsFirstBadFor, IsRightFor, IsRightTo, StartsWithHead, StartsWithRows}
-use Rattle.lit_cert.proofs.Plain.{IsMost, is_most}
+use Rattle.lit_cert.specs.Spelling.{HasText, HasTextFor, line_text, literals_words, ends_words, cost_words, spelling, spelling_for, version_words}
+use Rattle.lit_cert.specs.Reading.{IsBadRow, IsBadText, IsFirstBad, IsFirstBadFor, IsRightFor, IsRightTo, StartsWithHead}
+use Rattle.lit_cert.proofs.Plain.{is_most}
 use Rattle.lit_cert.proofs.Exits.{bad_first, bad_row}
 use Rattle.lit_cert.proofs.OneWay.{fewer_lines, one_certificate, right_lines}
-use Rattle.lit_cert.proofs.TooLong.{IsLong, first_bad_after, none_spells, right_after, right_in_prefix}
+use Rattle.lit_cert.proofs.TooLong.{IsLong, right_after, right_in_prefix}
 use Rattle.lit_cert.proofs.Lengths.{length-spelling_for-le}
 
 -- the first line of a profile's texts

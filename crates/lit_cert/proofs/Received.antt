@@ -2,9 +2,8 @@
 use Rattle.std.proofs.Common.{◌≡◌, ◌≢◌, ℕ, ◌^◌, ◌<◌, List, [], ◌++◌, length, Option, Some, None, Result, Ok, Err, refl, sym, ap, subst, ◌∙◌, append_assoc, arith}
 use Rattle.std.specs.Option.{IfSome}
 use Rattle.std.specs.Result.{IfOk, IfErr, OnOk}
-use Rattle.std.proofs.lemmas.List.{append_cancel_left, append-nil}
 use Rattle.std.proofs.lemmas.Result.{IfErr-at_err}
-use Rattle.byte_io.specs.Devices.{Coming, Clean, Faulty, Gives, EndsHere, IfKnown}
+use Rattle.byte_io.specs.Devices.{Coming, Clean, Faulty, EndsHere, IfKnown}
 use Rattle.byte_io.specs.Transfers.{ReadsInto, ReadsAll}
 use Rattle.lit_cert.specs.declared.fault.Fault.{Fault}
 use Rattle.lit_cert.specs.declared.fault.Fault.TheVariants.{OutOfMemory, BadCertText, ReadFault, WriteFault}
@@ -28,34 +27,9 @@ bad_at line = Err (BadCertText line)
 abbrev pub Spells : List ℕ → Answer → Type 0
 Spells text r = IfOk r (λ c. HasText c × (text ≡ spelling c))
 
--- all bytes were read, and their clean end
-ends_here : (limit : ℕ) (x y : Coming) (bytes text : List ℕ) → text ≡ [] ++ bytes → Gives x y bytes → ReadsAll limit [] text x → EndsHere y
-ends_here limit x y bytes text e gives all = record {
-  text = sym (append_cancel_left bytes [] y.text (append-nil bytes ∙ sym e ∙ all.text ∙ gives.text));
-  ending = λ faulty. all.ending (sym gives.ending ∙ faulty);
-}
-
--- a certificate that was read from all bytes is theirs
-pub found_whole : (limit : ℕ) (old new : Option Coming) (before text : List ℕ) (r : Answer) → before ≡ [] → ReadsInto old new before text → IfSome old (ReadsAll limit before text) → Spells text r → IfKnown old new (λ x y. IfOk r (λ c. HasText c × (x.text ≡ spelling c) × EndsHere y))
-found_whole limit None new before text r empty reads all found = tt
-found_whole limit (Some x) None before text r empty reads all found = absurd reads.given
-found_whole limit (Some x) (Some y) before text (Ok c) empty reads all found =
-    let whole = subst (λ (b : List ℕ). ReadsAll limit b text x) empty all in
-    let bytes = subst (λ (b : List ℕ). text ≡ b ++ reads.bytes) empty reads.text in
-    (found.0, sym whole.text ∙ found.1, ends_here limit x y reads.bytes text bytes reads.given whole)
-found_whole limit (Some x) (Some y) before text (Err e) empty reads all found = tt
-
 -- the bad line of a fault
 bad_line_of : (text : List ℕ) (r : Answer) (line : ℕ) → IfErr r (IsBadText text) → r ≡ Err (BadCertText line) → IsFirstBad text line
 bad_line_of text r line wrong is = IfErr-at_err (IsBadText text) is wrong
-
--- so is a bad line
-pub bad_whole : (limit : ℕ) (old : Option Coming) (before text : List ℕ) (r : Answer) → before ≡ [] → IfSome old (ReadsAll limit before text) → IfErr r (IsBadText text) → IfSome old (λ x. (line : ℕ) → r ≡ Err (BadCertText line) → IsFirstBad x.text line)
-bad_whole limit None before text r empty all wrong = tt
-bad_whole limit (Some x) before text r empty all wrong =
-    λ line is.
-    let whole = subst (λ (b : List ℕ). ReadsAll limit b text x) empty all in
-    subst (λ (t : List ℕ). IsFirstBad t line) whole.text (bad_line_of text r line wrong is)
 
 -- no fault follows a text that was read to its end
 pub ending_whole : (limit : ℕ) (old : Option Coming) (before text : List ℕ) (r : Answer) → IfSome old (ReadsAll limit before text) → IfSome old (λ x. OnOk r (x.ending ≢ Faulty))

@@ -1,7 +1,6 @@
 -- A `Result` made an `Option` by `ok()`.
 use Rattle.std.proofs.Common.{◌≡◌, ℕ, Option, Some, None, Result, Ok, Err, refl, subst, sym, ◌∙◌}
-use Rattle.std.proofs.lemmas.Bool.{false≢true}
-use Rattle.std.specs.Result.{IsOk, IfErr, IsErrAnd, result_ok}
+use Rattle.std.specs.Result.{IfErr, IsErrAnd, result_ok}
 use Rattle.std.specs.Option.{ok_or, IfSome, IfNone}
 use Rattle.lit_cert.specs.declared.fault.Fault.{Fault}
 use Rattle.lit_cert.specs.declared.fault.Fault.TheVariants.{OutOfMemory, BadCertText, ReadFault, WriteFault}
@@ -16,11 +15,6 @@ ok_is (Err d) x e = absurd cc
 pub ok_is_not : {T E : Type 0} (r : Result T E) (x : T) → None ≡ result_ok r → r ≡ Ok x → ⊥
 ok_is_not (Ok y) x e is = cc
 ok_is_not (Err d) x e is = cc
-
--- with no value the call did not succeed
-pub is_ok_not : {T E : Type 0} (r : Result T E) → None ≡ result_ok r → IsOk r → ⊥
-is_ok_not (Ok y) e is = absurd cc
-is_ok_not (Err d) e is = absurd (false≢true is)
 
 -- the exit of a `?` that follows `ok_or`: the fault is the given one, and there was no value
 pub from_none : {A T : Type 0} (res : Result T Fault) (o : Option A) (d e : Fault) (P : Fault → Type 0) → IsErrAnd res (λ y. y ≡ d) → Err d ≡ ok_or o e → (o ≡ None → P e) → IfErr res P

@@ -3,10 +3,8 @@ use Rattle.std.proofs.Common.{◌≡◌, ℕ, zero, suc, ◌+◌, ◌-◌, ◌*�
 use Rattle.std.specs.List.{flat_map}
 use Rattle.std.proofs.lemmas.List.{take-append-le, drop-append-le, take_all, drop_at, length-drop, flat_map_more}
 use Rattle.std.proofs.lemmas.List.Elements.{All-append}
-use Rattle.lit_cert.specs.declared.fault.Fault.{Fault}
-use Rattle.lit_cert.specs.declared.fault.Fault.TheVariants.{OutOfMemory, BadCertText, ReadFault, WriteFault}
 use Rattle.lit_cert.specs.Spelling.{line_text, row_words, rows_of}
-use Rattle.lit_cert.specs.Reading.{IsRow, NoLine, StartsWithRows, IsBadLine, IsBadRow}
+use Rattle.lit_cert.specs.Reading.{IsRow, StartsWithRows}
 use Rattle.lit_cert.proofs.Rows.{row_at, rows_of_more}
 
 -- a row does not see what stands after it
@@ -59,13 +57,6 @@ starts_more r n text ps left row rest so_far is e = record {
       ∙ sym (append_assoc (flat_map line_text (rows_of r n ps)) (line_text (row_words (r + 1) row)) rest)
       ∙ ap (λ (t : List ℕ). t ++ rest) (flat_map_more line_text [] (rows_of r n ps) (row_words (r + 1) row) ∙ ap (flat_map line_text) (sym (rows_of_push r n ps row so_far.row.len is.len)));
 }
-
--- a row that is wrong, after right rows
-pub stops_at_row : (most r n : ℕ) (text ps left : List ℕ) (e : Fault) → r < most → StartsWithRows r n text ps left → IsBadLine (r + 5) (NoLine (IsRow n) (row_words (r + 1)) left) e → IsBadRow most n text e
-stops_at_row most r n text ps left OutOfMemory lt so_far h = tt
-stops_at_row most r n text ps left (BadCertText k) lt so_far h = (r, lt, h.0, ps, left, so_far, h.1)
-stops_at_row most r n text ps left ReadFault lt so_far h = h
-stops_at_row most r n text ps left WriteFault lt so_far h = h
 
 -- the numbers after a row's own
 pub after_number : (seen numbers row : List ℕ) (x : ℕ) → seen ≡ numbers → numbers ≡ x ∷ row → take (length seen - 1) (drop 1 seen) ≡ row

@@ -1,11 +1,11 @@
--- The first bad line of a text that is longer than any certificate's stands in the prefix of it.
-use Rattle.std.proofs.Common.{◌≡◌, ℕ, ◌+◌, ◌-◌, ◌*◌, ◌<◌, ◌≤◌, List, ◌++◌, length, take, drop, refl, sym, ap, ◌∙◌, append_assoc, length-append, arith}
+-- A prefix that is longer than any certificate's text has the right lines of the whole text.
+use Rattle.std.proofs.Common.{◌≡◌, ℕ, ◌+◌, ◌*◌, ◌<◌, ◌≤◌, List, ◌++◌, length, take, drop, refl, sym, ap, ◌∙◌, append_assoc, length-append, arith}
 use Rattle.std.specs.List.{flat_map}
 use Rattle.std.proofs.lemmas.List.{take-append-le, take-append-drop, take_at, append-nil}
 use Rattle.std.proofs.lemmas.List.Concat.{flat_map-append}
 use Rattle.lit_cert.specs.Certificates.{CertificateNumbers}
 use Rattle.lit_cert.specs.Spelling.{HasTextFor, lines_of, line_text, spelling_for}
-use Rattle.lit_cert.specs.Reading.{Follows, IsRightFor, IsFirstBadFor}
+use Rattle.lit_cert.specs.Reading.{Follows, IsRightFor}
 use Rattle.lit_cert.proofs.Plain.{IsMost}
 use Rattle.lit_cert.proofs.Lengths.{length-spelling_for-le}
 
@@ -58,14 +58,6 @@ right_in_prefix most k prefix rest is long right =
         whole = λ past. absurd (past_end most k (prefix ++ rest) c is (omega (arith, length-append prefix rest)) follows past);
       },
     )
-
--- so the first bad line is the same
-pub first_bad_after : (most k : ℕ) (text prefix rest : List ℕ) → IsMost most → IsLong most prefix → text ≡ prefix ++ rest → IsFirstBadFor most prefix k → IsFirstBadFor most text k
-first_bad_after most k text prefix rest is long e bad = record {
-  from_one = bad.from_one;
-  before = rw e (right_after most (k - 1) prefix rest is long bad.before);
-  wrong = λ right. bad.wrong (right_in_prefix most k prefix rest is long (rw e at right));
-}
 
 -- and a text that long is no certificate's
 pub none_spells : (most : ℕ) (text : List ℕ) (c : CertificateNumbers) → IsMost most → IsLong most text → HasTextFor most c → text ≡ spelling_for most c → ⊥

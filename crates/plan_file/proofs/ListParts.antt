@@ -257,9 +257,6 @@ one_after fold room before (t ∷ ts) (u ∷ us) r s w v ft fu e one other =
 
 -- ---- the literals of an entry
 
-start_text : (start : Start) (rest : List ℕ) → text_of (start_fields start) ++ rest ≡ flags_of start.fold start.profile ∷ (to_be_bytes w16 start.count ++ rest)
-start_text start rest = refl
-
 -- two starts at the start of one text are one
 record SameStart (a b : Start) (s t : List ℕ) : Type 0 where
   start : a ≡ b

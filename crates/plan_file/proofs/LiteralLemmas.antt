@@ -8,7 +8,6 @@ use Rattle.std.specs.Int.{w16, to_be_bytes}
 use Rattle.std.proofs.lemmas.Bool.{ltb-false, le-ltb, eq-eqb, eqb-true, ne_eqb}
 use Rattle.std.proofs.lemmas.Bool.Decides.{nat_tests}
 use Rattle.std.proofs.lemmas.List.Elements.{All-from_recursion, recursion_from_All}
-use Rattle.std.proofs.lemmas.List.{length-append}
 use Rattle.std.proofs.lemmas.List.Sums.{position_or_len_is, sum_by-cons}
 use Rattle.std.proofs.lemmas.Result.{IfOk-at_ok}
 use Rattle.lit_base.specs.declared.fold.Fold.{Fold}
@@ -20,7 +19,7 @@ use Rattle.plan_file.specs.declared.fault.Cause.TheVariants.{Literal, Order}
 use Rattle.plan_file.specs.declared.fault.Wrong.{Wrong}
 use Rattle.plan_file.specs.Reading.{◌>>=◌, wrong_at, number_at, bytes_at, field, folded_len, literal_at, literals_at}
 use Rattle.plan_file.specs.Spelling.{literal_text}
-use Rattle.plan_file.proofs.FieldLemmas.{AreBytes, Took, took_both, rest_bytes, step, went_on, passed, field_read, field_again, bytes_read, bytes_again, number_read, number_again, number_rest}
+use Rattle.plan_file.proofs.FieldLemmas.{AreBytes, Took, took_both, rest_bytes, step, went_on, passed, field_read, field_again, bytes_read, bytes_again, number_read, number_again}
 
 -- ---- folded bytes at the start
 
@@ -129,13 +128,6 @@ parts fold room before bytes x e =
 -- a literal that was read may follow the one before it
 pub literal_next : (fold : Fold) (room : ℕ) (before bytes : List ℕ) (x : List ℕ × List ℕ) → literal_at fold room before bytes ≡ Ok x → IsNext fold room before x.0
 literal_next fold room before bytes x e = (parts fold room before bytes x e).next
-
--- how many bytes it leaves
-pub literal_rest : (fold : Fold) (room : ℕ) (before bytes : List ℕ) (x : List ℕ × List ℕ) → literal_at fold room before bytes ≡ Ok x → length bytes ≡ 2 + length x.0 + length x.1
-literal_rest fold room before bytes x e =
-    let p = parts fold room before bytes x e in
-    let t = bytes_read p.len p.rest x p.taken in
-    omega (arith, number_rest w16 bytes (p.len, p.rest) p.number, t.1, ap length t.0, length-append x.0 x.1)
 
 -- its length and its bytes stand at the start
 pub literal_read : (fold : Fold) (room : ℕ) (before bytes : List ℕ) (x : List ℕ × List ℕ) → AreBytes bytes → literal_at fold room before bytes ≡ Ok x → Took bytes (literal_text x.0) x.1

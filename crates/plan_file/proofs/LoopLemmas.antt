@@ -17,11 +17,6 @@ use Rattle.plan_file.specs.Reading.{◌>>=◌, number_at, numbers_at, literal_at
 abbrev pub continued : {A : Type 0} → List A → Result (List A × List ℕ) Wrong → Result (List A × List ℕ) Wrong
 continued items read = read >>= λ others. Ok (items ++ others.0, others.1)
 
--- before the first item a loop has what it is to read
-pub continued_none : {A : Type 0} (read : Result (List A × List ℕ) Wrong) → continued [] read ≡ read
-continued_none (Err wrong) = refl
-continued_none (Ok others) = refl
-
 -- an item that was read passes from the others to the items before them
 one_item : {A : Type 0} (items : List A) (item : A) (read : Result (List A × List ℕ) Wrong) → continued items (read >>= λ others. Ok (item ∷ others.0, others.1)) ≡ continued (items ++ item ∷ []) read
 one_item items item (Err wrong) = refl
@@ -65,14 +60,6 @@ pub record Left (fold : Fold) (count i room : ℕ) (before rest : List ℕ) (tex
   pub number : length texts ≡ i
   pub total_len : room + sum_by length texts ≡ MAX_LIST_LEN
   pub left : continued texts (literals_at fold (count - i) room before rest) ≡ total
-
--- no literal was read
-pub left_none : (fold : Fold) (count room : ℕ) (bytes : List ℕ) → room ≡ MAX_LIST_LEN → Left fold count 0 room [] bytes [] (literals_at fold count MAX_LIST_LEN [] bytes)
-left_none fold count room bytes is = record {
-  number = refl;
-  total_len = omega (arith, is);
-  left = continued_none (literals_at fold (count - 0) room [] bytes) ∙ ap (λ (r : ℕ). literals_at fold (count - 0) r [] bytes) is ∙ ap (λ (k : ℕ). literals_at fold k MAX_LIST_LEN [] bytes) (omega arith);
-}
 
 -- the length of one more literal
 sum_by-push : (ts : List (List ℕ)) (t : List ℕ) → sum_by length (ts ++ t ∷ []) ≡ sum_by length ts + length t

@@ -3,7 +3,7 @@ use Rattle.std.proofs.Common.{◌≡◌, ◌≢◌, ℕ, suc, ◌+◌, ◌-◌, 
 use Rattle.std.specs.List.{flat_map}
 use Rattle.std.proofs.lemmas.List.{append-nil, flat_map_more, length-append, take_more}
 use Rattle.std.proofs.lemmas.List.Concat.{flat_map-append}
-use Rattle.std.proofs.lemmas.List.Elements.{All-nil, All-push}
+use Rattle.std.proofs.lemmas.List.Elements.{All-push}
 use Rattle.lit_plan.specs.Plans.{Plan}
 use Rattle.plan_file.specs.declared.fault.Cause.TheVariants.{Trailing}
 use Rattle.plan_file.specs.declared.fault.Stop.{Stop}
@@ -25,9 +25,6 @@ pub record SoFar (version : Version) (i : ℕ) (bytes : List ℕ) (plans : List 
   pub each : All (IsPlan version) plans
   pub number : length plans ≡ i
   pub text_is : bytes ≡ flat_map plan_text plans ++ rest
-
-pub so_far_none : (version : Version) (bytes : List ℕ) → SoFar version 0 bytes [] bytes
-so_far_none version bytes = record { each = All-nil (IsPlan version); number = refl; text_is = refl }
 
 pub so_far_more : (version : Version) (i : ℕ) (bytes : List ℕ) (plans more : List Plan) (p : Plan) (rest after : List ℕ) → SoFar version i bytes plans rest → IsPlan version p → rest ≡ plan_text p ++ after → more ≡ plans ++ p ∷ [] → SoFar version (i + 1) bytes more after
 so_far_more version i bytes plans more p rest after s is e m =

@@ -1,5 +1,5 @@
 -- A plan file that is made: from the plans to the file of them.
-use Rattle.std.proofs.Common.{◌≡◌, ℕ, true, false, cond, List, [], ◌∷◌, ◌++◌, Option, None, Some, Ok, Err, inl, inr, ◌-◌, ◌<◌, ◌≤◌, arith, drop, get_or, length, take, refl, sym, ap, subst, ◌∙◌, append_assoc, append-nil, take_all}
+use Rattle.std.proofs.Common.{◌≡◌, ℕ, true, cond, List, [], ◌∷◌, ◌++◌, Option, None, Some, Ok, Err, inl, inr, ◌-◌, ◌<◌, ◌≤◌, arith, drop, get_or, length, take, refl, sym, ap, subst, ◌∙◌, append_assoc, append-nil, take_all}
 use Rattle.std.specs.Prelude.{String, map, string_bytes}
 use Rattle.byte_io.specs.Devices.{IfKnown}
 use Rattle.byte_io.specs.Sources.{AreShort, Ask, Created, Named, Sources, Standard, after, ask_of, can_create, taken_by}
@@ -10,7 +10,7 @@ use Rattle.plan_pack.specs.Asking.{Asks, asks_for_plans, pack_asks, reads_file}
 use Rattle.lit_base.specs.declared.profile.Profile.{Profile}
 use Rattle.plan_pack.specs.Lists.{IsPlanOf, first_message, list_in, search_message, search_messages}
 use Rattle.plan_pack.specs.Messages.{unusable}
-use Rattle.plan_pack.specs.Packing.{Made, MakesFile, MakesPack, Other, Own, PacksFiles, answer_of}
+use Rattle.plan_pack.specs.Packing.{Made, MakesFile, MakesPack, Own, PacksFiles, answer_of}
 use Rattle.plan_pack.specs.PlanFiles.{HoldsPrefix, HoldsPlans}
 use Rattle.plan_pack.specs.Stops.{Explains}
 use Rattle.plan_pack.specs.Taken.{TakesPlan}
@@ -31,10 +31,6 @@ first-explains (Refused refusal) None later e = (cc)
 first-explains (Refused refusal) (Some text) later e = e
 first-explains WriteFault reason later e = e
 first-explains OutOfMemory reason later e = tt
-
--- where there is none, the other does
-then-explains : (stop : Stop) (reason later : Option (List ℕ)) → reason ≡ None → Explains stop later → Explains stop (first_message reason later)
-then-explains stop reason later none e = subst (λ r. Explains stop (first_message r later)) (sym none) e
 
 -- ---- the file of plans behind no further files
 
@@ -162,15 +158,4 @@ pack-own {O} written reading profile names output known stop own why =
     IfKnown-none known (λ s l. AreShort s → Asks {T = O} (Err stop) (pack_asks reading names output s) s l × PacksFiles {O = O} written reading profile names output s l (Err (stop, None))) (λ s short. (
       subst (λ b. Asks {T = O} (Err stop) (cond b [] (asks_for_plans reading names (Created output) s)) s s) (sym own) (asks-all {T = O} (Err stop) [] s s refl),
       Own stop own why refl refl,
-    ))
-
-pub pack-other : {O : Type 0} (written : O → Option (List ℕ)) (reading : Reading) (profile : Profile) (names : List (List ℕ)) (output : List ℕ) (known left : Option Sources) (r : Made O)
-    → reads_file names output ≡ false
-    → IfKnown known left (λ s l. AreShort s → Asks (answer_of r) (asks_for_plans reading names (Created output) s) s l × MakesPack written reading profile [] names output s l r)
-    → IfKnown known left (λ s l. AreShort s → Asks (answer_of r) (pack_asks reading names output s) s l × PacksFiles written reading profile names output s l r)
-pack-other written reading profile names output known left r other makes =
-    IfKnown-weaker known left _ (λ s l. AreShort s → Asks (answer_of r) (pack_asks reading names output s) s l × PacksFiles written reading profile names output s l r) makes (λ s l h short.
-    let p = h short in (
-      subst (λ b. Asks (answer_of r) (cond b [] (asks_for_plans reading names (Created output) s)) s l) (sym other) p.0,
-      Other other p.1,
     ))

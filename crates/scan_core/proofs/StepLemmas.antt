@@ -62,11 +62,6 @@ event_refused s request refusal reply is replied =
 published_count : (s : Serving) (literals : List (List ℕ)) → publish_refusal (length (parts_of s).published_plans) literals ≡ publish_refusal (length s.published_plans) literals
 published_count s literals = ap (λ n. publish_refusal n literals) (length-map s.published_plans entry_of)
 
--- a Publish that is refused
-pub published_refused : (s : Serving) (fold : Fold) (profile : Profile) (literals : List (List ℕ)) (refusal : Refusal) (reply : ReplyParts) → Some refusal ≡ publish_refusal (length s.published_plans) literals → reply ≡ refused_reply 0 refusal → IsEvent s (Publish fold profile literals) (reply ∷ []) s
-published_refused s fold profile literals refusal reply is replied =
-    event_refused s (Publish fold profile literals) refusal reply (published_count s literals ∙ sym is) replied
-
 -- a Publish that is stored
 pub published_entry : (s : Serving) (fold : Fold) (profile : Profile) (literals : List (List ℕ)) (ticket : TicketParts) (reply : ReplyParts) (new : Serving) → None ≡ publish_refusal (length s.published_plans) literals → IsPlanFor fold profile literals ticket.plan → AgreeWith (known_to s) (entry_of ticket) → reply ≡ Published ticket.number → new ≡ record s { published_plans = s.published_plans ++ ticket ∷ [] } → IsEvent s (Publish fold profile literals) (reply ∷ []) new
 published_entry s fold profile literals ticket reply new none planned agreed replied after =
@@ -152,13 +147,6 @@ fed_too_long s stream place piece at long =
 pub opened_twice : (s : Serving) (stream number place : ℕ) → StandsAt stream s.streams place → refusal_of by_tails (parts_of s) (Open stream number) ≡ Some StreamInUse
 opened_twice s stream number place at =
     ap (λ o. if is_some o then Some StreamInUse else if nat_le MAX_STREAMS (length s.streams) then Some StreamQuota else None) (lookup_at stream s.streams place at)
-
--- an Open with too many streams open
-pub opened_many : (s : Serving) (stream number : ℕ) → lookup (nat_eq stream) s.streams ≡ None → MAX_STREAMS ≤ length s.streams → refusal_of by_tails (parts_of s) (Open stream number) ≡ Some StreamQuota
-opened_many s stream number none many =
-    let full : nat_le MAX_STREAMS (length s.streams) ≡ true = grind (arith, nat_tests) in
-    ap (λ o. if is_some o then Some StreamInUse else if nat_le MAX_STREAMS (length s.streams) then Some StreamQuota else None) none
-    ∙ ap (λ b. if b then Some StreamQuota else None) full
 
 -- an Open that meets no refusal, whatever its number
 pub opened_free : (s : Serving) (stream number : ℕ) → lookup (nat_eq stream) s.streams ≡ None → length s.streams < MAX_STREAMS → refusal_of by_tails (parts_of s) (Open stream number) ≡ None

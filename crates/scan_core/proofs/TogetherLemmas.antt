@@ -1,34 +1,13 @@
--- Tickets of a session, and that two sessions fit into one world.
-use Rattle.std.proofs.Common.{◌≡◌, ℕ, zero, suc, ◌+◌, ◌<◌, List, [], ◌∷◌, ◌++◌, length, get_or, map, Option, Some, None, Contains, ◌⊎◌, inl, inr, refl, sym, ap, ◌∙◌, subst, arith}
-use Rattle.std.specs.Prelude.{Bool, true, false, IfSome, option_map}
-use Rattle.std.specs.List.{slice_get}
-use Rattle.std.proofs.lemmas.List.{get_or_append_left, get_or-append-add}
+-- Two sessions whose tickets agree fit into one world.
+use Rattle.std.proofs.Common.{◌≡◌, ℕ, List, [], ◌∷◌, ◌++◌, Option, Some, None, Contains, inl, inr, refl, sym, ap, ◌∙◌, subst}
+use Rattle.std.specs.Prelude.{Bool, true, false, IfSome}
 use Rattle.std.proofs.lemmas.List.Elements.{Contains-append_cases}
-use Rattle.std.proofs.lemmas.Option.{get_or_from_slice_get, slice_get-map, slice_get_read}
-use Rattle.plan_store.specs.Tickets.{TicketParts}
-use Rattle.scan_core.specs.Sessions.{Bound, Serving}
+use Rattle.scan_core.specs.Sessions.{Serving}
 use Rattle.scan_core.specs.Steps.{Entry, IsSound, SessionParts}
 use Rattle.scan_core.specs.Together.{AgreeAll, Meet, ShowSound, TogetherLaw, known_to, tickets_of, world_of}
 use Rattle.scan_core.specs.Worlds.{Event, Happens, HasOnePlan, IsFirst, MeetsEntries, Runs, Streamed, World, is_publish}
 use Rattle.scan_core.proofs.TicketLemmas.{IsShown, shown_of}
 use Rattle.scan_core.proofs.WorldLemmas.{contains_cases, contains_more}
-
--- a ticket of a plan that the session published
-pub published_at : (s : Serving) (place : ℕ) (t : TicketParts) → place < length s.published_plans → place < length (tickets_of s) → t ≡ get_or s.published_plans place t → slice_get (tickets_of s) place ≡ Some t
-published_at s place t within inside here =
-    slice_get_read (tickets_of s) (length (tickets_of s)) place t refl inside
-    (here ∙ sym (get_or_append_left s.published_plans (map (λ (stream : ℕ × Bound). stream.1.ticket) s.streams) t place within))
-
--- the ticket of an open stream
-pub open_at : (s : Serving) (k : ℕ) (stream : ℕ × Bound) → k < length s.streams → length s.published_plans + k < length (tickets_of s) → stream ≡ get_or s.streams k stream → slice_get (tickets_of s) (length s.published_plans + k) ≡ Some stream.1.ticket
-open_at s k stream within inside here =
-    let tickets = map (λ (b : ℕ × Bound). b.1.ticket) s.streams in
-    let t = stream.1.ticket in
-    let read : slice_get tickets k ≡ Some t =
-    slice_get-map (λ (b : ℕ × Bound). b.1.ticket) s.streams k
-    ∙ ap (option_map (λ (b : ℕ × Bound). b.1.ticket)) (slice_get_read s.streams (length s.streams) k stream refl within here) in
-    slice_get_read (tickets_of s) (length (tickets_of s)) (length s.published_plans + k) t refl inside
-    (sym (get_or-append-add s.published_plans tickets k t ∙ get_or_from_slice_get tickets k t t read))
 
 -- entries of two sessions whose tickets agree
 agree_on : (s t : Serving) → AgreeAll s t → (first second : Entry) → IsShown (tickets_of s) first → IsShown (tickets_of t) second → first.number ≡ second.number → first.plan ≡ second.plan

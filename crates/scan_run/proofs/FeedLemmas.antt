@@ -2,7 +2,6 @@
 use Rattle.std.proofs.Common.{◌≡◌, ◌≢◌, ℕ, zero, suc, ◌-◌, ◌<◌, List, [], ◌∷◌, ◌++◌, length, map, take, drop, Option, inl, inr, refl, sym, ap, subst, ◌∙◌, append_assoc, arith, Contains}
 use Rattle.std.proofs.lemmas.Bool.{cases_lt}
 use Rattle.std.proofs.lemmas.List.{append-nil, length-append, take-append-drop}
-use Rattle.std.proofs.KnownBytes.{Appends-nil}
 use Rattle.lit_base.specs.Literals.{Literals}
 use Rattle.flow_scan.specs.Tails.{AreAdded}
 use Rattle.plan_store.specs.Tickets.{TicketParts}
@@ -18,7 +17,7 @@ use Rattle.scan_core.specs.Sessions.{IsEvent, Serving}
 use Rattle.scan_core.specs.Steps.{fed_replies}
 use Rattle.scan_core.proofs.BlockLemmas.{blocks_after, blocks_exist, full-append, joined-append}
 use Rattle.scan_core.proofs.PrefixLemmas.{feeding_completes, feeding_ends, feeding_more, feeding_none}
-use Rattle.scan_run.specs.Beside.{AgreeAfter, FindsLoaded, IsEventBeside, IsStepBeside}
+use Rattle.scan_run.specs.Beside.{IsEventBeside, IsStepBeside}
 use Rattle.scan_run.specs.Feeding.{FeedsOn, HasFed, StopsFeeding, last_block}
 use Rattle.scan_run.proofs.SendingLemmas.{last_is, last_some, one_text, sent_both, sent_last}
 
@@ -29,10 +28,6 @@ answered_one step s t request reply v w a b event sent = record { replies = repl
 -- of the one reply a prefix is written
 pub stopped_one : {S : Type 0} (step : Step S) (s t : S) (request : RequestParts) (reply : ReplyParts) (v w : Option (List ℕ)) (a : List ℕ) → step s request (reply ∷ []) t → SendsLess v w a (reply_text reply) → Stopped step s request v w a
 stopped_one step s t request reply v w a event sent = inr (record { replies = reply ∷ []; new = t; is_step = event; sent = less_is v w a _ _ (one_text reply) sent })
-
--- nothing is answered
-pub stopped_none : {S : Type 0} (step : Step S) (s : S) (request : RequestParts) (v : Option (List ℕ)) (a : List ℕ) → Stopped step s request v v a
-stopped_none step s request v a = inl (Appends-nil v)
 
 -- no hits end in no bytes
 no_hits : (l : Literals) (tail : List ℕ) (at : ℕ) (found : List (ℕ × ℕ)) → AreAdded l tail [] at found → length found ≡ 0
@@ -152,34 +147,7 @@ stopped_feeding s t stream piece rest place hits v w x a b may so (inr (count, g
 
 -- ---- beside loaded plans
 
--- a request by which a session gains no ticket
-abbrev GainsNone : RequestParts → Type 0
-GainsNone request = (loaded : List TicketParts) (replies : List ReplyParts) (later : Serving) → AgreeAfter loaded request replies later × FindsLoaded loaded request replies
-
--- is answered beside loaded plans as it is alone
-pub answered_beside : (loaded : List TicketParts) (s t : Serving) (request : RequestParts) (v w : Option (List ℕ)) (a b : List ℕ) → GainsNone request → Answered IsEvent s t request v w a b → Answered (IsEventBeside loaded) s t request v w a b
-answered_beside loaded s t request v w a b none answered =
-    let gained = none loaded answered.replies t in
-    record { replies = answered.replies; is_step = record { event = answered.is_step; agreed = gained.0; found = gained.1 }; sent = answered.sent }
-
--- and answering it stops so
-pub stopped_beside : (loaded : List TicketParts) (s : Serving) (request : RequestParts) (v w : Option (List ℕ)) (a : List ℕ) → GainsNone request → Stopped IsEvent s request v w a → Stopped (IsEventBeside loaded) s request v w a
-stopped_beside loaded s request v w a none (inl nothing) = inl nothing
-stopped_beside loaded s request v w a none (inr cut) =
-    let gained = none loaded cut.replies cut.new in
-    inr (record {
-      replies = cut.replies;
-      new = cut.new;
-      is_step = record { event = cut.is_step; agreed = gained.0; found = gained.1 };
-      sent = cut.sent;
-    })
-
--- a session that keeps its tickets is answered with them
-pub answered_with : (loaded : List TicketParts) (s t : Serving) (request : RequestParts) (v w : Option (List ℕ)) (a b : List ℕ) → Answered (IsEventBeside loaded) s t request v w a b
-    → Answered IsStepBeside record { session = s; loaded = loaded } record { session = t; loaded = loaded } request v w a b
-answered_with loaded s t request v w a b answered =
-    record { replies = answered.replies; is_step = record { event = answered.is_step; kept = refl }; sent = answered.sent }
-
+-- where answering stops, it stops with the tickets that the session keeps
 pub stopped_with : (loaded : List TicketParts) (s : Serving) (request : RequestParts) (v w : Option (List ℕ)) (a : List ℕ) → Stopped (IsEventBeside loaded) s request v w a → Stopped IsStepBeside record { session = s; loaded = loaded } request v w a
 stopped_with loaded s request v w a (inl nothing) = inl nothing
 stopped_with loaded s request v w a (inr cut) = inr (record {

@@ -77,18 +77,6 @@ plans_of-append : (xs ys : List TicketParts) → plans_of (xs ++ ys) ≡ plans_o
 plans_of-append [] ys = refl
 plans_of-append (x ∷ xs) ys = ap (λ ps. x.plan ∷ ps) (plans_of-append xs ys)
 
--- no plans were published yet
-pub published-none : (store : Shelves) (tickets : List TicketParts) (err : Option (List ℕ)) → PublishesPrefix store [] tickets tickets err err (Ok tt)
-published-none store tickets err = record {
-  published = [];
-  more = [];
-  grown = sym (append-nil tickets);
-  here = All-nil (IsOf store);
-  parts = refl;
-  left = refl;
-  said = Appends-nil err;
-}
-
 -- there was no memory for a plan
 pub published-not : (store : Shelves) (plan : Plan) (tickets : List TicketParts) (err : Option (List ℕ)) → PublishesPrefix store (plan ∷ []) tickets tickets err err (Err OutOfMemory)
 published-not store plan tickets err = record {

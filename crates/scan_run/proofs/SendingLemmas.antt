@@ -6,7 +6,7 @@ use Rattle.scan_wire.specs.Messages.{Fed, Hits, ReplyParts}
 use Rattle.scan_wire.specs.declared.message.TheConstants.{MAX_HITS}
 use Rattle.scan_serve.specs.Sending.{Sends, SendsLess}
 use Rattle.scan_serve.proofs.RunLemmas.{replies_text-append}
-use Rattle.scan_serve.proofs.SendLemmas.{after_none, prefix_is, reply_some, sends_is, sends_none, sends_then, sends_then_prefix}
+use Rattle.scan_serve.proofs.SendLemmas.{after_none, prefix_is, reply_some, sends_is, sends_then, sends_then_prefix}
 use Rattle.scan_core.specs.Blocks.{AreBlocks, joined}
 use Rattle.scan_core.specs.Steps.{fed_replies}
 use Rattle.scan_core.proofs.BlockLemmas.{full-append, joined-append}
@@ -44,10 +44,6 @@ cut_more : (blocks : List (List (ℕ × ℕ))) (block rest : List (ℕ × ℕ)) 
 cut_more blocks block rest =
     sym (append_assoc (joined blocks) block rest)
     ∙ ap (λ hs. hs ++ rest) (ap (λ hs. joined blocks ++ hs) (sym (append-nil block)) ∙ sym (joined-append blocks (block ∷ [])))
-
--- none of the hits found was sent yet
-pub sends_full_none : (stream : ℕ) (hits : List (ℕ × ℕ)) (v : Option (List ℕ)) (b : List ℕ) → SendsFull stream hits hits v v b b
-sends_full_none stream hits v b = record { blocks = []; full = tt; cut = refl; sent = sends_none v b }
 
 -- one full reply more
 pub sends_full_more : (stream : ℕ) (old now block new : List (ℕ × ℕ)) (u v w : Option (List ℕ)) (a b c : List ℕ) → MAX_HITS ≤ length now → block ≡ take MAX_HITS now → new ≡ drop MAX_HITS now → SendsFull stream old now u v a b → Sends v w b c (reply_text (Hits stream block)) → SendsFull stream old new u w a c

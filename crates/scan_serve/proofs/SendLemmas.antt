@@ -17,10 +17,6 @@ sends_added v a text b is = record { done = []; written = Appends-nil v; text_is
 pub sends_none : (v : Option (List ℕ)) (a : List ℕ) → Sends v v a a []
 sends_none v a = sends_added v a [] a (sym (append-nil a))
 
--- all that waits is written
-pub sends_flushed : (v w : Option (List ℕ)) (a b : List ℕ) → Appends v w a → b ≡ [] → Sends v w a b []
-sends_flushed v w a b written none = record { done = a; written = written; text_is = ap (λ (x : List ℕ). a ++ x) (sym none) }
-
 -- one after the other
 pub sends_then : (u v w : Option (List ℕ)) (a b c x y : List ℕ) → Sends u v a b x → Sends v w b c y → Sends u w a c (x ++ y)
 sends_then u v w a b c x y p q = record {

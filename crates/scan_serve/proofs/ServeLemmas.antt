@@ -1,5 +1,5 @@
 -- Turns of serving, one after the other, and how they end.
-use Rattle.std.proofs.Common.{◌≡◌, ◌≢◌, ℕ, List, [], ◌∷◌, ◌++◌, length, Option, None, Some, Result, Ok, refl, sym, ap, subst, ◌∙◌, inl, inr, append_assoc, arith}
+use Rattle.std.proofs.Common.{◌≡◌, ◌≢◌, ℕ, List, [], ◌∷◌, ◌++◌, length, Option, None, Some, Result, Ok, refl, sym, ap, subst, ◌∙◌, inr, append_assoc, arith}
 use Rattle.std.proofs.lemmas.List.{append-nil, length-append, nil_from_length}
 use Rattle.std.proofs.lemmas.List.Elements.{All-append, All-nil}
 use Rattle.std.proofs.lemmas.List.Concat.{flat_map-append}
@@ -16,12 +16,10 @@ use Rattle.scan_wire.specs.Messages.{ReplyParts}
 use Rattle.scan_serve.specs.declared.ended.Ended.{Ended}
 use Rattle.scan_serve.specs.declared.ended.Ended.TheVariants.{Clean, Truncated, Bad, ReadFault, WriteFault, OutOfMemory}
 use Rattle.scan_serve.specs.declared.stop.Stop.{Stop}
-use Rattle.scan_serve.specs.declared.stop.Stop.TheVariants as stop
-use Rattle.scan_serve.specs.Answering.{AnswersText, AnswersTextPrefix, GoesOn, MeetsBad, Step, bad_frame}
+use Rattle.scan_serve.specs.Answering.{AnswersText, MeetsBad, Step, bad_frame}
 use Rattle.scan_serve.specs.Sending.{SendsPrefix}
 use Rattle.scan_serve.specs.Serving.{AtEnd, EndsAs, GoesOnServing, IsServed, IsServedPrefix}
 use Rattle.scan_wire.specs.declared.fault.Cause.{Cause}
-use Rattle.scan_serve.specs.Stops.{ended_by}
 use Rattle.scan_serve.proofs.RunLemmas.{replies_text-append, run_then}
 
 -- nothing is answered, and nothing is written
@@ -35,9 +33,6 @@ served_from step s t c d v w held mid rest last r a = record {
   read = r.given;
   answers = subst (λ (x : List ℕ). AnswersText step s t v w x rest last) r.text a;
 }
-
-pub served_prefix_from : {S : Type 0} (step : Step S) (s : S) (c d : Option Coming) (v w : Option (List ℕ)) (held mid : List ℕ) → ReadsInto c d held mid → AnswersTextPrefix step s v w mid → IsServedPrefix step s c d v w held
-served_prefix_from step s c d v w held mid r a = record { bytes = r.bytes; read = r.given; answers = subst (λ (x : List ℕ). AnswersTextPrefix step s v w x) r.text a }
 
 -- before the first turn
 pub served_none : {S : Type 0} (step : Step S) (s : S) (c d : Option Coming) (v : Option (List ℕ)) (held mid : List ℕ) → ReadsInto c d held mid → IsServed step s s c d v v held mid []
@@ -120,11 +115,6 @@ served_then_ends step s t u a b c x y z held mid ReadFault mem p (rest, waits, q
 served_then_ends step s t u a b c x y z held mid WriteFault mem p q = served_then_prefix step s t a b c x y z held mid p q
 served_then_ends step s t u a b c x y z held mid OutOfMemory mem p q = absurd (mem refl)
 
--- a stop is the ending that it names
-pub stops_as : {S : Type 0} (step : Step S) (s t : S) (c d : Option Coming) (v w : Option (List ℕ)) (held : List ℕ) (why : Stop) → IsServedPrefix step s c d v w held → EndsAs step s t c d v w held (ended_by why)
-stops_as step s t c d v w held stop.WriteFault p = p
-stops_as step s t c d v w held stop.OutOfMemory p = inl p
-
 -- the held bytes stay the same where a read gave nothing
 reads_none : (c d : Option Coming) (old new : List ℕ) → ReadsInto c d old new → length new ≡ length old → new ≡ old
 reads_none c d old new r len = r.text ∙ ap (λ (x : List ℕ). old ++ x) (nil_from_length r.bytes (omega (arith, ap length r.text, length-append old r.bytes))) ∙ append-nil old
@@ -140,10 +130,6 @@ ends_truncated step s c d v old new r end len waits some = (new, some, subst (λ
 -- a read failed
 pub ends_failed : {S : Type 0} (step : Step S) (s : S) (c d : Option Coming) (v : Option (List ℕ)) (old new : List ℕ) → ReadsInto c d old new → new ≡ old → Waits old → EndsAs step s s c d v v old ReadFault
 ends_failed step s c d v old new r same waits = (new, subst (λ (x : List ℕ). Waits x) (sym same) waits, served_none step s c d v old new r)
-
--- frames were answered after a read, and the stream goes on
-pub goes_on_serving : {S : Type 0} (step : Step S) (s t : S) (c d : Option Coming) (v w : Option (List ℕ)) (old mid new : List ℕ) → ReadsInto c d old mid → GoesOn step s t v w mid new → GoesOnServing step s t c d v w old new
-goes_on_serving step s t c d v w old mid new r g = record { waits = g.waits; short = g.short; served = served_from step s t c d v w old mid new [] r g.answers }
 
 -- a bad frame was met after a read
 pub ends_bad : {S : Type 0} (step : Step S) (s t : S) (c d : Option Coming) (v w : Option (List ℕ)) (old mid new : List ℕ) (cause : Cause) → ReadsInto c d old mid → MeetsBad step s t v w mid new cause → EndsAs step s t c d v w old Bad

@@ -5,7 +5,7 @@ use Rattle.scan_wire.specs.declared.fault.Cause.{Cause}
 use Rattle.scan_wire.specs.Causes.{HasCause, Waits}
 use Rattle.scan_wire.specs.Frames.{replies_text, reply_text, requests_text}
 use Rattle.scan_wire.specs.Messages.{ReplyParts}
-use Rattle.scan_serve.specs.Answering.{AnswersAll, AnswersPrefix, AnswersTextPrefix, GoesOn, MeetsBad, Step, bad_frame}
+use Rattle.scan_serve.specs.Answering.{AnswersAll, AnswersPrefix, AnswersTextPrefix, GoesOn, Step, bad_frame}
 use Rattle.scan_serve.specs.Sending.{Sends, SendsLess}
 use Rattle.scan_serve.proofs.RunLemmas.{replies_text-append}
 use Rattle.scan_serve.proofs.SendLemmas.{prefix_is, sends_all, sends_is, sends_then, sends_then_prefix}
@@ -30,22 +30,6 @@ goes_on step s t text rest place u v w b c a waits short sent none is = record {
     run = a.run;
     text_is = a.text_is ∙ ap (λ (x : List ℕ). requests_text a.requests ++ x) (sym is);
     written = sends_all u w _ (sends_is u w [] [] _ _ (append-nil (replies_text a.replies) ∙ no_last a.replies) (subst (λ (x : List ℕ). Sends u w [] x (replies_text a.replies ++ [])) none (sends_then u v w [] b c (replies_text a.replies) [] a.sent sent)));
-  };
-}
-
--- the refusal of a bad frame is after the replies, and all is written
-pub meets_bad : {S : Type 0} (step : Step S) (s t : S) (text rest : List ℕ) (place : ℕ) (cause : Cause) (u v w : Option (List ℕ)) (b c : List ℕ) → AnswersAll step s t text 0 place u v [] b → HasCause cause (drop place text) → Sends v w b c (reply_text (bad_frame cause)) → c ≡ [] → rest ≡ drop place text → MeetsBad step s t u w text rest cause
-meets_bad step s t text rest place cause u v w b c a has refused none is = record {
-  has_cause = subst (λ (y : List ℕ). HasCause cause y) (sym is) has;
-  answers = record {
-    requests = a.requests;
-    replies = a.replies;
-    are_requests = a.are_requests;
-    run = a.run;
-    text_is = a.text_is ∙ ap (λ (y : List ℕ). requests_text a.requests ++ y) (sym is);
-    written = sends_all u w _ (sends_is u w [] [] _ _ (one_last a.replies (bad_frame cause))
-        (subst (λ (y : List ℕ). Sends u w [] y (replies_text a.replies ++ reply_text (bad_frame cause))) none
-        (sends_then u v w [] b c (replies_text a.replies) (reply_text (bad_frame cause)) a.sent refused)));
   };
 }
 

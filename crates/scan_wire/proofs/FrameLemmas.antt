@@ -1,16 +1,13 @@
 -- What stands at the start of a text: a frame, a bad length, or too few bytes.
-use Rattle.std.proofs.Common.{◌≡◌, ◌≢◌, ℕ, ◌+◌, ◌^◌, ◌<◌, ◌≤◌, List, ◌∷◌, ◌++◌, length, take, drop, sym, ap, subst, ◌∙◌, Option, Some, None, append_assoc, arith}
+use Rattle.std.proofs.Common.{◌≡◌, ◌≢◌, ℕ, ◌+◌, ◌^◌, ◌<◌, ◌≤◌, List, ◌∷◌, ◌++◌, length, take, drop, sym, ap, ◌∙◌, Option, Some, None, append_assoc, arith}
 use Rattle.std.specs.Prelude.{IfNone, IfSome, MatchOption}
 use Rattle.std.proofs.lemmas.List.{length-append, length-take, take-append-drop, drop_at}
 use Rattle.scan_wire.specs.declared.fault.Cause.{Cause}
 use Rattle.scan_wire.specs.declared.fault.Cause.TheVariants.{Length, Kind, Stream, Payload}
-use Rattle.scan_wire.specs.declared.fault.Fault.{Fault}
-use Rattle.scan_wire.specs.declared.fault.Fault.TheVariants.{OutOfMemory, BadFrame}
-use Rattle.scan_wire.specs.Causes.{HasBadLength, HasCause, IfBadFrame, IsWrong, Waits}
-use Rattle.scan_wire.specs.Frames.{FrameParts, HasFields, IsFrame, IsRequest, frame_text, request_frame, request_text}
-use Rattle.scan_wire.specs.Messages.{RequestParts, Publish, Open, Feed, Close, ShowPlan}
+use Rattle.scan_wire.specs.Causes.{HasBadLength, HasCause, Waits}
+use Rattle.scan_wire.specs.Frames.{FrameParts, IsFrame, frame_text, request_frame}
 use Rattle.scan_wire.specs.Numbers.{u32_text}
-use Rattle.scan_wire.specs.Reading.{NoList, StartsWith, StartsWithFrame, parts_of}
+use Rattle.scan_wire.specs.Reading.{StartsWithFrame, parts_of}
 use Rattle.scan_wire.specs.declared.frames.Frame.{Frame}
 use Rattle.scan_wire.proofs.NumberLemmas.{SameFirst, length-u32_text, u32_same}
 
@@ -82,44 +79,10 @@ starts_with text n rest prefix f kind stream is most long prefix_is body =
       text_is = text-is ∙ ap (λ (x : List ℕ). frame_text f ++ x) (sym after);
     }
 
--- the frame of a request at the start is the request
-pub found_request : (text : List ℕ) (f : FrameParts) (r : RequestParts) (len : ℕ) → StartsWithFrame text f → HasFields r × (request_frame r ≡ f) → len ≡ 9 + length f.payload → StartsWith text r len
-found_request text f r len s h is = record {
-  is_request = record { fields = h.0; frame = subst IsFrame (sym h.1) s.is_frame };
-  some = omega arith;
-  within = omega (arith, s.within);
-  text_is = s.text_is ∙ ap (λ (g : FrameParts). frame_text g ++ drop (9 + length f.payload) text) (sym h.1) ∙ ap (λ (k : ℕ). request_text r ++ drop k text) (sym is);
-}
-
--- a fault of the frame at the start is a fault of the text
-pub wrong_frame : (text : List ℕ) (f : FrameParts) (e : Fault) → StartsWithFrame text f → IfBadFrame (λ cause. IsWrong cause f) e → IfBadFrame (λ cause. HasCause cause text) e
-wrong_frame text f OutOfMemory s w = w
-wrong_frame text f (BadFrame Length) s w = absurd w
-wrong_frame text f (BadFrame Kind) s w = record { frame = f; rest = drop (9 + length f.payload) text; is_frame = s.is_frame; text_is = s.text_is; wrong = w }
-wrong_frame text f (BadFrame Stream) s w = record { frame = f; rest = drop (9 + length f.payload) text; is_frame = s.is_frame; text_is = s.text_is; wrong = w }
-wrong_frame text f (BadFrame Payload) s w = record { frame = f; rest = drop (9 + length f.payload) text; is_frame = s.is_frame; text_is = s.text_is; wrong = w }
-
 -- a frame read from the bytes after a length in its range is the frame at the start
 pub starts_or_waits : (text : List ℕ) (n : ℕ) (rest prefix : List ℕ) (o : Option Frame) → text ≡ u32_text n ++ rest → 5 ≤ n → n ≤ 65541 → n ≤ length rest → prefix ≡ take n rest → IfSome o (λ f. (f.kind < 2 ^ 8) × (f.stream < 2 ^ 32) × (prefix ≡ f.kind ∷ (u32_text f.stream ++ f.payload.now))) → IfNone o (length prefix < 5) → MatchOption o (Waits text) (λ f. StartsWithFrame text (parts_of f))
 starts_or_waits text n rest prefix None is least most long prefix_is some none = absurd (omega (arith, none, ap length prefix_is, length-take n rest))
 starts_or_waits text n rest prefix (Some f) is least most long prefix_is some none = starts_with text n rest prefix (parts_of f) some.0 some.1 is most long prefix_is some.2
-
-kinds_apart : (n k : ℕ) → 2 ≤ n → n ≡ k → k ≡ 1 → ⊥
-kinds_apart n k some same one = omega arith
-
--- a frame of the kind of Publish that is no list is no request's
-no_publish : (f : FrameParts) → f.kind ≡ 1 → NoList f.payload → (r : RequestParts) → IsRequest r → request_frame r ≢ f
-no_publish f kind none (Publish fold profile literals) is e = none fold profile literals is.fields (sym (ap (λ (g : FrameParts). g.payload) e))
-no_publish f kind none (Open stream number) is e = absurd (kinds_apart 2 f.kind (omega arith) (ap (λ (g : FrameParts). g.kind) e) kind)
-no_publish f kind none (Feed stream bytes) is e = absurd (kinds_apart 3 f.kind (omega arith) (ap (λ (g : FrameParts). g.kind) e) kind)
-no_publish f kind none (Close stream) is e = absurd (kinds_apart 4 f.kind (omega arith) (ap (λ (g : FrameParts). g.kind) e) kind)
-no_publish f kind none (ShowPlan stream) is e = absurd (kinds_apart 5 f.kind (omega arith) (ap (λ (g : FrameParts). g.kind) e) kind)
-
--- a fault of the payload of a Publish is a fault of its frame
-pub publish_wrong : (f : FrameParts) (e : Fault) → f.kind ≡ 1 → f.stream ≡ 0 → IfBadFrame (λ cause. (cause ≡ Payload) × NoList f.payload) e → IfBadFrame (λ cause. IsWrong cause f) e
-publish_wrong f OutOfMemory kind stream h = tt
-publish_wrong f (BadFrame cause) kind stream h =
-    subst (λ (c : Cause). IsWrong c f) (sym h.0) (record { least = omega arith; most = omega arith }, λ _. stream, no_publish f kind h.1)
 
 -- as many bytes as kind and stream have are a frame
 pub not_short : (P : Type 0) (o : Option Frame) (prefix : List ℕ) → 5 ≤ length prefix → IfNone o (length prefix < 5) → IfNone o P

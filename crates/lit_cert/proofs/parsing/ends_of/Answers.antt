@@ -2,14 +2,13 @@ use Rattle.std.proofs.Common.{◌≡◌, ◌∙◌, ◌<◌, ◌^◌, ◌∷◌,
 use Rattle.std.specs.Fmt.{decimal}
 use Rattle.std.proofs.lemmas.List.Elements.{All-weaker}
 use Rattle.std.proofs.lemmas.Fmt.{decimal_injective}
-use Rattle.std.proofs.lemmas.Result.{Ok-from_Ok_iff, OkIff-at_ok, IfOk-at_ok}
-use Rattle.std.specs.Result.{is_ok}
+use Rattle.std.proofs.lemmas.Result.{Ok-from_Ok_iff, OkIff-at_ok}
 use Rattle.std.proofs.lemmas.List.{map_push, length-map}
 use Rattle.std.proofs.lemmas.Iterator.Splits.{YieldsList-from_slice_split}
 use Rattle.std.proofs.lemmas.Iterator.Consumers.{YieldsList-at}
 use Rattle.lit_base.specs.Profiles.{buckets}
 use Rattle.lit_cert.proofs.Splits.{words_in, yielded_next, yielded_all, reads_more, same_count, reads_all, word_at}
-use Rattle.lit_cert.proofs.Results.{ok_is, ok_is_not, is_ok_not}
+use Rattle.lit_cert.proofs.Results.{ok_is, ok_is_not}
 use Rattle.lit_cert.proofs.parsing.ends_of.Goals as goal
 
 pub returns-in_err-number_of-clause-none : goal.returns-in_err-number_of-clause-none
