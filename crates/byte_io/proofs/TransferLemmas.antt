@@ -5,8 +5,8 @@ use Rattle.std.proofs.Math.Seq.{take-append-add}
 use Rattle.std.specs.Io.KnownBytes.{Appends, Keeps}
 use Rattle.std.proofs.KnownBytes.{Appends-nil, Appends-trans, Appends-kept}
 use Rattle.byte_io.specs.declared.device.Failed.{Failed}
-use Rattle.byte_io.specs.Devices.{Coming, Gives, ReadGives, IfKnown}
-use Rattle.byte_io.specs.Transfers.{AppendsPart, FaultFollows, ReadsInto}
+use Rattle.byte_io.specs.Devices.{Faulty, Coming, Gives, ReadGives, IfKnown}
+use Rattle.byte_io.specs.Transfers.{AppendsPart, FaultFollows, ReadsAll, ReadsInto}
 use Rattle.byte_io.proofs.KnownLemmas.{IfKnown-then, IfKnown-weaker}
 
 -- a fact that holds whatever is answered
@@ -62,6 +62,11 @@ ReadsInto-more {a} {b} c {xs} {ys} {zs} r s = record {
   text = s.text ∙ ap (λ l. l ++ s.bytes) r.text ∙ append_assoc xs r.bytes s.bytes;
   given = Gives-trans a b c r.bytes s.bytes r.given s.given;
 }
+
+-- no fault follows a text that was read to its end
+pub no_fault : (Q : Coming → Type 0) (limit : ℕ) (old : Option Coming) (before text : List ℕ) → IfSome old (ReadsAll limit before text) → IfSome old (λ x. x.ending ≡ Faulty → Q x)
+no_fault Q limit None before text all = tt
+no_fault Q limit (Some x) before text all = λ faulty. absurd (all.ending faulty)
 
 -- at least as many bytes were to come as were gained
 pub ReadsInto-many : (a b : Option Coming) (xs ys : List ℕ) (limit most : ℕ) → ReadsInto a b xs ys → most + length xs ≤ length ys → IfSome a (λ c. length c.text < most → FaultFollows limit xs ys c)

@@ -37,7 +37,7 @@ below_from_above : (a b : List ℕ) → literal_cmp a b ≡ Greater → literal_
 below_from_above a b e = literal_total.antisymm b a ∙ ap ordering_reverse e
 
 -- all that follow x are above k, where x is
-all_above : (k x : List ℕ) (xs : List (List ℕ)) → literal_cmp k x ≡ Less → AllByRecursion (λ y. literal_cmp x y ≡ Less) xs → AllByRecursion (λ y. literal_cmp k y ≡ Less) xs
+pub all_above : (k x : List ℕ) (xs : List (List ℕ)) → literal_cmp k x ≡ Less → AllByRecursion (λ y. literal_cmp x y ≡ Less) xs → AllByRecursion (λ y. literal_cmp k y ≡ Less) xs
 all_above k x [] h all = all
 all_above k x (y ∷ ys) h all = (literal_total.trans k x y h all.0, all_above k x ys h all.1)
 

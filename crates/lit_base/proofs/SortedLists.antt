@@ -1,11 +1,12 @@
--- Two lists in a strict order that have the same elements are the same.
-use Rattle.std.proofs.Common.{◌≡◌, List, [], ◌∷◌, Contains, Ordering, ◌⊎◌, inl, inr, refl, sym, ap, ◌∙◌, subst}
+-- Two lists in a strict order that have the same elements are the same; the order of hits is total.
+use Rattle.std.proofs.Common.{◌≡◌, ℕ, List, [], ◌∷◌, Contains, Ordering, ◌⊎◌, inl, inr, refl, sym, ap, ◌∙◌, subst}
 use Rattle.std.specs.declared.cmp.Ordering.TheVariants.{Less, Equal, Greater}
 use Rattle.std.specs.Ordering.{ordering_reverse}
-use Rattle.std.specs.Cmp.{IsTotalOrder}
+use Rattle.std.specs.Cmp.{IsTotalOrder, then_total, on_total, nat_cmp_total}
 use Rattle.std.specs.List.{AllByRecursion}
 use Rattle.std.specs.List.Sorted.{IsStrictlySortedBy}
 use Rattle.std.proofs.lemmas.Cmp.{tied_itself}
+use Rattle.lit_base.specs.Occurrences.{hit_cmp}
 use Rattle.lit_base.proofs.Members.{In, in_from_contains, contains_from_in}
 
 -- what holds of all elements holds of one
@@ -55,3 +56,7 @@ module _ {K : Type 0} (R : K → K → Ordering) (o : IsTotalOrder R) where
   pub same_elements : (xs ys : List K) → IsStrictlySortedBy R xs → IsStrictlySortedBy R ys → ((t : K) → Contains xs t → Contains ys t) → ((t : K) → Contains ys t → Contains xs t) → xs ≡ ys
   same_elements xs ys s r to back =
       same_by_in xs ys s r (λ t h. in_from_contains t ys (to t (contains_from_in t xs h))) (λ t h. in_from_contains t xs (back t (contains_from_in t ys h)))
+
+-- the order of hits is total
+pub hit_total : IsTotalOrder hit_cmp
+hit_total = then_total (on_total (λ (hit : ℕ × ℕ). hit.1) nat_cmp_total) (on_total (λ (hit : ℕ × ℕ). hit.0) nat_cmp_total)

@@ -37,11 +37,6 @@ ending_whole limit None before text r all = tt
 ending_whole limit (Some x) before text (Ok c) all = all.ending
 ending_whole limit (Some x) before text (Err e) all = tt
 
--- so what holds where a fault follows is not asked for
-pub shown_whole : (Q : Coming → Type 0) (limit : ℕ) (old : Option Coming) (before text : List ℕ) → IfSome old (ReadsAll limit before text) → IfSome old (λ x. x.ending ≡ Faulty → Q x)
-shown_whole Q limit None before text all = tt
-shown_whole Q limit (Some x) before text all = λ faulty. absurd (all.ending faulty)
-
 -- the prefix of too many bytes is no certificate's text
 pub found_long : (old new : Option Coming) (before text : List ℕ) (r : Answer) → IsLong 16 text → ReadsInto old new before text → Spells text r → IfKnown old new (λ x y. IfOk r (λ c. HasText c × (x.text ≡ spelling c) × EndsHere y))
 found_long None new before text r long reads found = tt

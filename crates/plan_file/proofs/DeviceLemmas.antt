@@ -4,7 +4,7 @@ use Rattle.std.specs.Option.{IfSome}
 use Rattle.std.specs.Result.{OnErr}
 use Rattle.std.specs.Io.KnownBytes.{Appends}
 use Rattle.std.proofs.lemmas.List.{append-nil, length-append}
-use Rattle.byte_io.specs.Devices.{Coming, Clean, Faulty}
+use Rattle.byte_io.specs.Devices.{Coming, Clean}
 use Rattle.byte_io.specs.Transfers.{AppendsPart, FaultFollows, ReadsAll}
 use Rattle.lit_plan.specs.Plans.{Plan}
 use Rattle.plan_file.specs.declared.version.Version.{Version}
@@ -34,11 +34,6 @@ none_written version (Err e) written plans = record {
 pub of_all : (Q : List ℕ → Type 0) (limit : ℕ) (old : Option Coming) (before text : List ℕ) → before ≡ [] → IfSome old (ReadsAll limit before text) → Q text → IfSome old (λ x. x.ending ≡ Clean → length x.text < 2 ^ 40 → Q x.text)
 of_all Q limit None before text empty all holds = tt
 of_all Q limit (Some x) before text empty all holds = λ clean short. subst Q (all.text ∙ ap (λ (b : List ℕ). b ++ x.text) empty) holds
-
--- no fault follows a text that was read to its end
-pub no_fault : (Q : Coming → Type 0) (limit : ℕ) (old : Option Coming) (before text : List ℕ) → IfSome old (ReadsAll limit before text) → IfSome old (λ x. x.ending ≡ Faulty → Q x)
-no_fault Q limit None before text all = tt
-no_fault Q limit (Some x) before text all = λ faulty. absurd (all.ending faulty)
 
 -- no read fails where a clean end comes in time
 pub no_failure : (Q : Coming → Type 0) (limit : ℕ) (old : Option Coming) (before text : List ℕ) → IfSome old (λ x. length x.text < 2 ^ 40 → FaultFollows limit before text x) → IfSome old (λ x. x.ending ≡ Clean → length x.text < 2 ^ 40 → Q x)

@@ -39,7 +39,7 @@ stop (Err wrong) next e is = inl (ap stopped (one_wrong is))
 stop (Ok value) next e is = inr (value, refl, is)
 
 -- a reader that stops where a test fails stopped, so the test failed
-failed : {A : Type 0} (passes : Bool) (x : A) (wrong e : Wrong) → cond passes (Ok x) (Err wrong) ≡ Err e → (passes ≡ false) × (e ≡ wrong)
+pub failed : {A : Type 0} (passes : Bool) (x : A) (wrong e : Wrong) → cond passes (Ok x) (Err wrong) ≡ Err e → (passes ≡ false) × (e ≡ wrong)
 failed true x wrong e is = absurd cc
 failed false x wrong e is = (refl, cc)
 

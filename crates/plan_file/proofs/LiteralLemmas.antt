@@ -14,7 +14,7 @@ use Rattle.lit_base.specs.declared.fold.Fold.{Fold}
 use Rattle.lit_base.specs.declared.limits.TheConstants.{MAX_LITERALS, MAX_LITERAL_LEN, MAX_LIST_LEN}
 use Rattle.lit_base.specs.Folding.{folded, folded_text}
 use Rattle.lit_base.specs.Literals.{Literals, IsNormal, literal_cmp}
-use Rattle.lit_base.proofs.InsertLemmas.{literal_total}
+use Rattle.lit_base.proofs.InsertLemmas.{all_above}
 use Rattle.plan_file.specs.declared.fault.Cause.TheVariants.{Literal, Order}
 use Rattle.plan_file.specs.declared.fault.Wrong.{Wrong}
 use Rattle.plan_file.specs.Reading.{◌>>=◌, wrong_at, number_at, bytes_at, field, folded_len, literal_at, literals_at}
@@ -191,10 +191,6 @@ literals_again fold room before (t ∷ ts) rest follow =
 each : (fold : Fold) (P : List ℕ → Type 0) → ((room : ℕ) (before t : List ℕ) → IsNext fold room before t → P t) → (room : ℕ) (before : List ℕ) (ts : List (List ℕ)) → Follow fold room before ts → AllByRecursion P ts
 each fold P gives room before [] follow = tt
 each fold P gives room before (t ∷ ts) follow = (gives room before t follow.0, each fold P gives (room - length t) t ts follow.1)
-
-all_above : (k x : List ℕ) (xs : List (List ℕ)) → literal_cmp k x ≡ Less → AllByRecursion (λ y. literal_cmp x y ≡ Less) xs → AllByRecursion (λ y. literal_cmp k y ≡ Less) xs
-all_above k x [] h all = tt
-all_above k x (y ∷ ys) h all = (literal_total.trans k x y h all.0, all_above k x ys h all.1)
 
 -- they rise
 rising : (fold : Fold) (room : ℕ) (before : List ℕ) (ts : List (List ℕ)) → Follow fold room before ts → IsStrictlySortedBy literal_cmp (before ∷ ts)

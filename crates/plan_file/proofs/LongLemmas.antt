@@ -1,9 +1,8 @@
 -- A first fault that is no want of bytes stays the first one, whatever follows; and so does each one of a text that is
 -- longer than any file.
-use Rattle.std.proofs.Common.{◌≡◌, ◌≢◌, ℕ, zero, suc, ◌+◌, ◌-◌, ◌*◌, ◌<◌, ◌≤◌, List, [], ◌∷◌, ◌++◌, length, All, inl, inr, refl, ap, subst, ◌∙◌, append_assoc, arith}
+use Rattle.std.proofs.Common.{◌≡◌, ◌≢◌, ℕ, zero, suc, ◌+◌, ◌-◌, ◌*◌, ◌<◌, ◌≤◌, List, [], ◌∷◌, ◌++◌, length, inl, inr, refl, ap, subst, ◌∙◌, append_assoc, arith}
 use Rattle.std.specs.List.{flat_map, AllByRecursion}
 use Rattle.std.proofs.lemmas.List.{length-append}
-use Rattle.std.proofs.lemmas.List.Elements.{recursion_from_All}
 use Rattle.lit_plan.specs.Plans.{Plan}
 use Rattle.plan_file.specs.declared.fault.Cause.{Cause}
 use Rattle.plan_file.specs.declared.fault.Cause.TheVariants.{Short, Trailing}
@@ -15,7 +14,7 @@ use Rattle.plan_file.specs.Spelling.{plan_text, head_text, BeginsFile, IsFile, I
 use Rattle.plan_file.proofs.DeviceLemmas.{length-head_text}
 use Rattle.plan_file.proofs.EntryParts.{longer_entry, most_bytes, plan_len}
 use Rattle.plan_file.proofs.ListParts.{shift_at, whole_fewer, whole_rest}
-use Rattle.plan_file.proofs.OneWay.{none_first}
+use Rattle.plan_file.proofs.OneWay.{by_recursion, none_first}
 use Rattle.plan_file.proofs.PartLemmas.{Whole, longer_bad, shift}
 use Rattle.plan_file.proofs.Parts.{head_steady}
 
@@ -33,9 +32,6 @@ file_bytes = 101190408
 -- a text longer than any file
 abbrev pub IsLong : List ℕ → Type 0
 IsLong text = 101190408 < length text
-
-by_recursion : (version : Version) (ps : List Plan) → All (IsPlan version) ps → AllByRecursion (IsPlan version) ps
-by_recursion version ps all = recursion_from_All (IsPlan version) ps all
 
 -- a bound of the bytes of a file
 pub spelled_short : (text : List ℕ) (plans : List Plan) → IsFile text plans → length text ≤ 101190408

@@ -88,7 +88,7 @@ same_plans version (p ∷ ps) (q ∷ qs) ip iq len e =
 
 -- ---- whole texts
 
-by_recursion : (version : Version) (ps : List Plan) → All (IsPlan version) ps → AllByRecursion (IsPlan version) ps
+pub by_recursion : (version : Version) (ps : List Plan) → All (IsPlan version) ps → AllByRecursion (IsPlan version) ps
 by_recursion version ps all = recursion_from_All (IsPlan version) ps all
 
 -- the head of a file has the version and the number of plans

@@ -24,7 +24,7 @@ use Rattle.plan_file.specs.FirstBad.{Field, FitsCertificate, FitsHead, FitsLiter
 use Rattle.plan_file.specs.FirstFaults.{IsFull, IsWrongLiteral}
 use Rattle.plan_file.specs.Reading.{◌>>=◌, wrong_at, byte_at, bytes_at, number_at, field, folded_len, literal_at, numbers_at, certificate_at, fold_of, last_flags, profile_of, version_of, head_at}
 use Rattle.plan_file.specs.Spelling.{CanExpress, flags_of, limit_of, literal_text, numbers_text, version_number}
-use Rattle.plan_file.proofs.FieldLemmas.{AreBytes, IsFieldWidth, NumbersStop, Took, byte_read, byte_stop, bytes_read, bytes_stop, field_read, field_stop, none_stopped, number_len, number_read, number_rest, number_stop, numbers_read, numbers_stop, rest_bytes, same_number, stop, took_both}
+use Rattle.plan_file.proofs.FieldLemmas.{AreBytes, IsFieldWidth, NumbersStop, Took, byte_read, byte_stop, bytes_read, bytes_stop, failed, field_read, field_stop, none_stopped, number_len, number_read, number_rest, number_stop, numbers_read, numbers_stop, rest_bytes, same_number, stop, took_both}
 use Rattle.plan_file.proofs.LiteralLemmas.{folded_whole, in_range, in_range_from, in_range_bounds}
 use Rattle.plan_file.proofs.PartLemmas.{SameShape, Steady, heads_same, other_bad, same_prefix, short_bad, steady_by_first, tails_same, text_of-append}
 use Rattle.plan_file.proofs.PlanLemmas.{below_from, between, between_from, flags_again, flags_can, flags_pass, is_count, is_few, is_flag, is_number, last_few, limit_few, version_again, version_passes, version_small}
@@ -291,11 +291,6 @@ test_stop : {A : Type 0} (t : Bool) (wrong e : Wrong) (next : Result A Wrong) �
 test_stop true wrong e next is = inl (refl, cc)
 test_stop false wrong e next is = inr (refl, is)
 
--- a reader that goes on where a test holds stopped, so the test failed
-test_fails : {A : Type 0} (t : Bool) (x : A) (wrong e : Wrong) → cond t (Ok x) (Err wrong) ≡ Err e → (t ≡ false) × (e ≡ wrong)
-test_fails true x wrong e is = absurd cc
-test_fails false x wrong e is = (refl, cc)
-
 less_not : (o : Ordering) → is_lt o ≡ false → o ≢ Less
 less_not Less e is = absurd cc
 less_not Equal e is = absurd cc
@@ -316,7 +311,7 @@ test_bad fold room before bytes rest text after e fits whole at is =
           let back : drop (folded_len fold text) rest ≡ drop (folded_len fold text) text ++ after = ap (drop (folded_len fold text)) at ∙ drop-append-le (folded_len fold text) text after (omega (arith, less)) in
           inr (inr (inl (record { text = text; rest = after; fits = fits; bytes_are = whole; unfolded = less; wrong_is = f.1 ∙ ap (wrong_at Literal) back })))
       | inr f ↦
-          let order = test_fails (is_lt (literal_cmp before text)) (text, after) (wrong_at Order bytes) e f.1 in
+          let order = failed (is_lt (literal_cmp before text)) (text, after) (wrong_at Order bytes) e f.1 in
           inr (inr (inr (record { text = text; rest = after; fits = fits; bytes_are = whole; folded = folded_whole fold text (ltb-false _ _ f.0); not_after = less_not (literal_cmp before text) order.0; wrong_is = order.1 })))
     ]
 

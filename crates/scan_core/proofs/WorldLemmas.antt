@@ -3,13 +3,12 @@ use Rattle.std.proofs.Common.{◌≡◌, ℕ, zero, suc, ◌+◌, ◌<◌, Bool,
 use Rattle.std.specs.Prelude.{fold, is_some, nat_eq, nat_le, option_map, ◌&&◌, if◌then◌else◌}
 use Rattle.std.specs.List.{concat}
 use Rattle.std.specs.Map.{lookup, remove_entry, set_value}
-use Rattle.std.specs.Cmp.{IsTotalOrder, then_total, on_total, nat_cmp_total}
 use Rattle.std.proofs.lemmas.Bool.{eq-eqb}
 use Rattle.std.proofs.lemmas.Bool.Decides.{eqb_tells}
 use Rattle.std.proofs.lemmas.Option.{none-some, same_Some}
 use Rattle.lit_base.specs.Literals.{Literals}
 use Rattle.lit_base.specs.Occurrences.{hit_cmp}
-use Rattle.lit_base.proofs.SortedLists.{same_elements}
+use Rattle.lit_base.proofs.SortedLists.{hit_total, same_elements}
 use Rattle.lit_plan.specs.Plans as plans
 use Rattle.flow_scan.proofs.TailSteps.{concat_push}
 use Rattle.scan_wire.specs.Messages.{RequestParts, ReplyParts, Publish, Open, Feed, Close, ShowPlan, Opened}
@@ -295,10 +294,6 @@ answered events world who stream piece outcome None after accepted a =
       replied = ap (λ (out : Outcome Streamed). out.replies) feeds.is;
       right = record { hits = feeds.hits; past = past; cut = feeds.cut; reached = ap (λ bs. length bs + length piece) known.bytes };
     }
-
--- the order of hits is total
-hit_total : IsTotalOrder hit_cmp
-hit_total = then_total (on_total (λ (hit : ℕ × ℕ). hit.1) nat_cmp_total) (on_total (λ (hit : ℕ × ℕ). hit.0) nat_cmp_total)
 
 -- hits past a place are one list
 hits_past_one : (l : Literals) (text : List ℕ) (from : ℕ) (hits others : List (ℕ × ℕ)) → AreHitsPast l text from hits → AreHitsPast l text from others → hits ≡ others

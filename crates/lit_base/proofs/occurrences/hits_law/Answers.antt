@@ -1,13 +1,7 @@
 -- Two lists of the hits of one list in one text have the same hits in one order.
-use Rattle.std.proofs.Common.{ℕ}
-use Rattle.std.specs.Cmp.{IsTotalOrder, then_total, on_total, nat_cmp_total}
 use Rattle.lit_base.specs.Occurrences.{hit_cmp}
-use Rattle.lit_base.proofs.SortedLists.{same_elements}
+use Rattle.lit_base.proofs.SortedLists.{hit_total, same_elements}
 use Rattle.lit_base.proofs.occurrences.hits_law.Goals as goal
-
--- the order of hits is total
-hit_total : IsTotalOrder hit_cmp
-hit_total = then_total (on_total (λ (hit : ℕ × ℕ). hit.1) nat_cmp_total) (on_total (λ (hit : ℕ × ℕ). hit.0) nat_cmp_total)
 
 pub returns : goal.returns
 returns c l text hits others one other =

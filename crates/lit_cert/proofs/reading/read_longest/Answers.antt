@@ -1,6 +1,7 @@
 use Rattle.std.proofs.Common.{◌+◌, ◌*◌, ◌<◌, length, ap, Result, Err, arith}
 use Rattle.byte_io.specs.declared.transfer.ReadError.{ReadError}
-use Rattle.lit_cert.proofs.Received.{bad_long, ending_long, ending_whole, found_long, shown_long, shown_whole}
+use Rattle.byte_io.proofs.TransferLemmas.{no_fault}
+use Rattle.lit_cert.proofs.Received.{bad_long, ending_long, ending_whole, found_long, shown_long}
 use Rattle.lit_cert.proofs.reading.read_longest.Goals as goal
 
 abbrev too_long : ReadError → Result (Unit {0}) ReadError
@@ -31,7 +32,7 @@ returns-in-Err-TooLong-clause-bad_line g c =
     bad_long (g.R.ByteIn.coming c.args.input.now) (g.R.ByteIn.coming c.read_to_end.new.input) c.new-text.result.items text c.certificate_of-in-Err-TooLong.result c.new-text.ensures.items long c.read_to_end.ensures.bytes wrong
 
 pub returns-in-Ok-clause-shown : goal.returns-in-Ok-clause-shown
-returns-in-Ok-clause-shown g c = shown_whole _ _ (g.R.ByteIn.coming c.args.input.now) _ _ c.in-Ok.ensures.ok
+returns-in-Ok-clause-shown g c = no_fault _ _ (g.R.ByteIn.coming c.args.input.now) _ _ c.in-Ok.ensures.ok
 
 pub returns-in-Err-TooLong-clause-shown : goal.returns-in-Err-TooLong-clause-shown
 returns-in-Err-TooLong-clause-shown g c =

@@ -1,12 +1,13 @@
 use Rattle.std.proofs.Common.{◌≡◌, ◌≢◌, ◌<◌, ℕ, List, ap, length, arith, Result, Err}
 use Rattle.std.specs.Global.{Vec}
 use Rattle.byte_io.specs.declared.transfer.ReadError.{ReadError}
+use Rattle.byte_io.proofs.TransferLemmas.{no_fault}
 use Rattle.lit_plan.specs.declared.compiled.Compiled.{Compiled}
 use Rattle.plan_file.specs.declared.fault.Cause.{Cause}
 use Rattle.plan_file.specs.declared.fault.Fault.{Fault}
 use Rattle.plan_file.specs.declared.fault.Fault.TheVariants.{BadPlanFile, OutOfMemory}
 use Rattle.plan_file.specs.FirstFaults.{IsFirstFault}
-use Rattle.plan_file.proofs.DeviceLemmas.{no_failure, no_fault, of_all}
+use Rattle.plan_file.proofs.DeviceLemmas.{no_failure, of_all}
 use Rattle.plan_file.proofs.ReadLemmas.{ending_long, exact_long, found_long, only_failed, only_long, shown_long, wrong_long}
 use Rattle.plan_file.proofs.reading.read_plans.Goals as goal
 
