@@ -3,7 +3,7 @@ use Rattle.std.proofs.Common.{◌≡◌, ℕ, ◌+◌, ◌<◌, ◌≤◌, List,
 use Rattle.std.proofs.lemmas.List.{take_at, take-take, take-append-le}
 use Rattle.std.proofs.Math.Seq.{take-append-add}
 use Rattle.std.specs.Io.KnownBytes.{Appends, Keeps}
-use Rattle.std.proofs.KnownBytes.{Appends-nil, Appends-trans, Appends-kept}
+use Rattle.std.proofs.KnownBytes.{Appends-trans, Appends-kept}
 use Rattle.byte_io.specs.declared.device.Failed.{Failed}
 use Rattle.byte_io.specs.Devices.{Faulty, Coming, Gives, ReadGives, IfKnown}
 use Rattle.byte_io.specs.Transfers.{AppendsPart, FaultFollows, ReadsAll, ReadsInto}
@@ -20,10 +20,6 @@ pub record WritesPrefix (old new : Option (List ℕ)) (piece rest : List ℕ) : 
   pub split : piece ≡ done ++ rest
   pub text : Appends old new done
 
--- before the first call nothing is written
-pub WritesPrefix-none : (a : Option (List ℕ)) (piece : List ℕ) → WritesPrefix a a piece piece
-WritesPrefix-none a piece = record { done = []; split = refl; text = Appends-nil a }
-
 -- one more call takes the prefix of the rest
 pub WritesPrefix-more : {a b : Option (List ℕ)} (c : Option (List ℕ)) {piece rest : List ℕ} (n : ℕ) → WritesPrefix a b piece rest → Appends b c (take n rest) → WritesPrefix a c piece (drop n rest)
 WritesPrefix-more {a} {b} c {piece} {rest} n w p = record {
@@ -31,10 +27,6 @@ WritesPrefix-more {a} {b} c {piece} {rest} n w p = record {
   split = w.split ∙ ap (λ l. w.done ++ l) (sym (take-append-drop n rest)) ∙ sym (append_assoc w.done (take n rest) (drop n rest));
   text = Appends-trans a b c _ _ w.text p;
 }
-
--- with no rest the whole piece is written
-pub WritesPrefix-all : {a b : Option (List ℕ)} {piece rest : List ℕ} → WritesPrefix a b piece rest → rest ≡ [] → Appends a b piece
-WritesPrefix-all {a} {b} w none = subst (Appends a b) (sym (w.split ∙ ap (λ l. w.done ++ l) none ∙ append-nil w.done)) w.text
 
 -- with a rest a part of the piece is written
 pub WritesPrefix-part : {a b : Option (List ℕ)} (c : Option (List ℕ)) {piece rest : List ℕ} → WritesPrefix a b piece rest → Keeps b c → 0 < length rest → AppendsPart a c piece

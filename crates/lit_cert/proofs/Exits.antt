@@ -7,11 +7,9 @@ use Rattle.std.proofs.lemmas.List.{get_or-map, get_or-take, length-take-le, appe
 use Rattle.std.proofs.lemmas.List.Elements.{All-nil, All-cons, All-take, All-drop}
 use Rattle.std.proofs.lemmas.List.Concat.{flat_map-append}
 use Rattle.std.proofs.Math.Nat.{mul-le-mul_right}
-use Rattle.lit_cert.specs.declared.fault.Fault.{Fault}
-use Rattle.lit_cert.specs.declared.fault.Fault.TheVariants.{OutOfMemory, BadCertText, ReadFault, WriteFault}
 use Rattle.lit_cert.specs.Certificates.{CertificateNumbers}
 use Rattle.lit_cert.specs.Spelling.{literals_in, IsCount, HasEnds, HasTextFor, literals_words, ends_words, cost_words, row_words, rows_of, head_lines, lines_of, line_text, version_words, spelling_for}
-use Rattle.lit_cert.specs.Reading.{IsRow, NoLine, StartsWithHead, StartsWithRows, IsFirstBadFor, IsBadRow, IsBadTextFor}
+use Rattle.lit_cert.specs.Reading.{IsRow, NoLine, StartsWithHead, StartsWithRows, IsFirstBadFor}
 use Rattle.lit_cert.proofs.Plain.{IsMost}
 use Rattle.lit_cert.proofs.FirstBad.{first_bad, length-lines_of}
 use Rattle.lit_cert.proofs.Completed.{completed, count_is, completed_fits, completed_prefix, count_of, line_of_row, line_of_end}
@@ -162,11 +160,3 @@ all_read most n cost ends text rest ps left later is head rows e =
       text_is ∙ ap (λ (ls : List (List (List ℕ))). flat_map line_text ls ++ later) (append_assoc (head_lines most n ends cost) (rows_of most n ps) end)
           ∙ ap (λ (k : ℕ). flat_map line_text (head_lines most k ends cost ++ (rows_of most k ps ++ end)) ++ later) (sym n-is),
     )
-
--- a row is wrong, or want of memory
-pub bad_rows : (most n cost : ℕ) (ends text rest : List ℕ) (e : Fault) → IsMost most → StartsWithHead most n cost ends text rest → IsBadRow most n rest e → IsBadTextFor most text e
-bad_rows most n cost ends text rest OutOfMemory is head h = tt
-bad_rows most n cost ends text rest (BadCertText k) is head h =
-    rw h.2 (bad_row most n cost h.0 ends text rest h.3 h.4 is head h.1 h.5 h.6)
-bad_rows most n cost ends text rest ReadFault is head h = h
-bad_rows most n cost ends text rest WriteFault is head h = h

@@ -1,5 +1,5 @@
 -- Numbers with single spaces between them, read word by word.
-use Rattle.std.proofs.Common.{◌≡◌, ℕ, ◌<◌, ◌≤◌, eqb, List, [], ◌∷◌, ◌++◌, length, get_or, map, All, Option, Some, None, refl, sym, ap, ◌∙◌, length-append, arith}
+use Rattle.std.proofs.Common.{◌≡◌, ℕ, ◌<◌, ◌≤◌, eqb, List, [], ◌∷◌, ◌++◌, length, get_or, map, All, Option, Some, None, sym, ap, ◌∙◌, length-append, arith}
 use Rattle.std.specs.Iterator.{Yields}
 use Rattle.std.specs.List.{join_with_byte, slice_split}
 use Rattle.std.specs.Fmt.{decimal}
@@ -28,10 +28,6 @@ pub record ReadsTo (words : List (List ℕ)) (numbers : List ℕ) (most limit : 
   pub words_are : words ≡ map decimal numbers
   pub few : length numbers ≤ most
   pub small : All (λ x. x < limit) numbers
-
--- before the first word
-pub reads_none : (most limit : ℕ) → ReadsTo [] [] most limit
-reads_none most limit = record { words_are = refl; few = omega arith; small = λ k d lt. absurd (omega arith) }
 
 -- one word more
 pub reads_more : (words : List (List ℕ)) (numbers : List ℕ) (most limit : ℕ) (word : List ℕ) (x : ℕ) → ReadsTo words numbers most limit → word ≡ decimal x → x < limit → length numbers < most → ReadsTo (words ++ word ∷ []) (numbers ++ x ∷ []) most limit

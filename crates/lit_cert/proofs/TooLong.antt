@@ -58,7 +58,3 @@ right_in_prefix most k prefix rest is long right =
         whole = λ past. absurd (past_end most k (prefix ++ rest) c is (omega (arith, length-append prefix rest)) follows past);
       },
     )
-
--- and a text that long is no certificate's
-pub none_spells : (most : ℕ) (text : List ℕ) (c : CertificateNumbers) → IsMost most → IsLong most text → HasTextFor most c → text ≡ spelling_for most c → ⊥
-none_spells most text c is long has e = omega (arith, length-spelling_for-le most c is has, ap length e)

@@ -77,13 +77,6 @@ IsBadRow most n text (BadCertText k) =
 IsBadRow most n text ReadFault = ⊥
 IsBadRow most n text WriteFault = ⊥
 
--- want of memory, or the first bad line of the text
-abbrev pub IsBadTextFor : ℕ → List ℕ → Fault → Type 0
-IsBadTextFor most text OutOfMemory = ⊤
-IsBadTextFor most text (BadCertText k) = IsFirstBadFor most text k
-IsBadTextFor most text ReadFault = ⊥
-IsBadTextFor most text WriteFault = ⊥
-
 -- ---- of a text, whatever its profile
 
 -- the lines up to line k are lines of the text of a certificate of some profile

@@ -62,14 +62,6 @@ wrong_trailing version count i bytes plans rest done le s some =
       wrong = subst (λ (n : ℕ). IsWrongNext version n rest (wrong_at Trailing rest)) k (some, refl);
     }
 
--- all plans were read, and nothing follows
-pub all_read : (version : Version) (count i : ℕ) (bytes : List ℕ) (plans : List Plan) (rest : List ℕ) → count ≤ i → i ≤ count → SoFar version i bytes plans rest → rest ≡ [] → AreEntries version count bytes plans
-all_read version count i bytes plans rest done le s none = record {
-  each = s.each;
-  count_is = omega (arith, s.number);
-  text_is = s.text_is ∙ ap (λ (t : List ℕ). flat_map plan_text plans ++ t) none ∙ append-nil (flat_map plan_text plans);
-}
-
 -- a head and as many plans as it says are the text
 pub whole : (version : Version) (count : ℕ) (text rest : List ℕ) (plans : List Plan) → AreBytes text → head_at text ≡ Ok ((version, count), rest) → AreEntries version count rest plans → IsFile text plans
 whole version count text rest plans bytes head are =

@@ -1,5 +1,5 @@
 -- Turns of serving, one after the other, and how they end.
-use Rattle.std.proofs.Common.{◌≡◌, ◌≢◌, ℕ, List, [], ◌∷◌, ◌++◌, length, Option, None, Some, Result, Ok, refl, sym, ap, subst, ◌∙◌, inr, append_assoc, arith}
+use Rattle.std.proofs.Common.{◌≡◌, ◌≢◌, ℕ, List, [], ◌++◌, length, Option, None, Some, Result, Ok, refl, sym, ap, subst, ◌∙◌, inr, append_assoc, arith}
 use Rattle.std.proofs.lemmas.List.{append-nil, length-append, nil_from_length}
 use Rattle.std.proofs.lemmas.List.Elements.{All-append, All-nil}
 use Rattle.std.proofs.lemmas.List.Concat.{flat_map-append}
@@ -16,10 +16,9 @@ use Rattle.scan_wire.specs.Messages.{ReplyParts}
 use Rattle.scan_serve.specs.declared.ended.Ended.{Ended}
 use Rattle.scan_serve.specs.declared.ended.Ended.TheVariants.{Clean, Truncated, Bad, ReadFault, WriteFault, OutOfMemory}
 use Rattle.scan_serve.specs.declared.stop.Stop.{Stop}
-use Rattle.scan_serve.specs.Answering.{AnswersText, MeetsBad, Step, bad_frame}
+use Rattle.scan_serve.specs.Answering.{AnswersText, Step}
 use Rattle.scan_serve.specs.Sending.{SendsPrefix}
 use Rattle.scan_serve.specs.Serving.{AtEnd, EndsAs, GoesOnServing, IsServed, IsServedPrefix}
-use Rattle.scan_wire.specs.declared.fault.Cause.{Cause}
 use Rattle.scan_serve.proofs.RunLemmas.{replies_text-append, run_then}
 
 -- nothing is answered, and nothing is written
@@ -130,10 +129,6 @@ ends_truncated step s c d v old new r end len waits some = (new, some, subst (λ
 -- a read failed
 pub ends_failed : {S : Type 0} (step : Step S) (s : S) (c d : Option Coming) (v : Option (List ℕ)) (old new : List ℕ) → ReadsInto c d old new → new ≡ old → Waits old → EndsAs step s s c d v v old ReadFault
 ends_failed step s c d v old new r same waits = (new, subst (λ (x : List ℕ). Waits x) (sym same) waits, served_none step s c d v old new r)
-
--- a bad frame was met after a read
-pub ends_bad : {S : Type 0} (step : Step S) (s t : S) (c d : Option Coming) (v w : Option (List ℕ)) (old mid new : List ℕ) (cause : Cause) → ReadsInto c d old mid → MeetsBad step s t v w mid new cause → EndsAs step s t c d v w old Bad
-ends_bad step s t c d v w old mid new cause r m = (new, cause, m.has_cause, served_from step s t c d v w old mid new (bad_frame cause ∷ []) r m.answers)
 
 -- turns in which the stream goes on
 pub serving_then : {S : Type 0} (step : Step S) (s t u : S) (a b c : Option Coming) (x y z : Option (List ℕ)) (held mid rest : List ℕ) → IsServed step s t a b x y held mid [] → GoesOnServing step t u b c y z mid rest → GoesOnServing step s u a c x z held rest

@@ -11,7 +11,7 @@ use Rattle.scan_wire.specs.declared.fault.Fault.TheVariants.{OutOfMemory, BadFra
 use Rattle.scan_wire.specs.Causes.{IfBadFrame}
 use Rattle.scan_wire.specs.Frames.{flags_of, literal_text}
 use Rattle.scan_wire.specs.Numbers.{u16_text}
-use Rattle.scan_wire.specs.Reading.{AreRead, NoList, NoLiteral, NoLiterals}
+use Rattle.scan_wire.specs.Reading.{NoList, NoLiteral, NoLiterals}
 use Rattle.scan_wire.proofs.NumberLemmas.{length-u16_text, u16_same}
 
 -- a literal's length fits two bytes
@@ -91,14 +91,6 @@ so_far_more count bytes xs ys x rest later s short n is = record {
   count_is = omega (arith, s.count_is, ap length is, length-append xs (x ∷ []));
   short = subst (λ (w : List (List ℕ)). All IsShort w) (sym is) (All-push IsShort xs x s.short short);
   text_is = one_more bytes xs x rest later s.text_is n ∙ ap (λ (w : List (List ℕ)). flat_map literal_text w ++ later) (sym is);
-}
-
--- all are read, and nothing follows
-pub all_read : (count i : ℕ) (bytes : List ℕ) (xs : List (List ℕ)) (rest : List ℕ) → count < 2 ^ 16 → i ≡ count → SoFar i bytes xs rest → rest ≡ [] → AreRead count bytes xs
-all_read count i bytes xs rest small done s none = record {
-  are_literals = record { count = omega (arith, s.count_is); lengths = s.short };
-  count_is = s.count_is ∙ done;
-  text_is = s.text_is ∙ ap (λ (w : List ℕ). flat_map literal_text xs ++ w) none ∙ append-nil (flat_map literal_text xs);
 }
 
 -- where the literals after its head are none, a payload is no list
