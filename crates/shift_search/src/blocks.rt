@@ -31,7 +31,7 @@ pub(crate) struct Noted {
 /// the words that say which ends are ruled out, four for each group. Writes the numbers of the noted groups at the
 /// start of `groups`.
 #[inline(always)]
-pub(crate) fn probe_block<const STEP: usize>(
+pub(crate) fn probe_block<const STRIDE: usize>(
     entries: &[u64],
     text: &[u8],
     at: usize,
@@ -53,7 +53,7 @@ pub(crate) fn probe_block<const STEP: usize>(
     let mut after = before;
     let mut count = 0usize;
     for group in 0..GROUPS {
-        let now = four_probes::<STEP>(entries, text, at + GROUP * group);
+        let now = four_probes::<STRIDE>(entries, text, at + GROUP * group);
         let ruled = now.with_those_before(after);
         after = now.after;
         store_words(ruled, words, 4 * group);

@@ -16,4 +16,4 @@ mod tuning;
 pub use runs::cut_runs;
 pub use shift_or::ShiftOr;
 pub use shift_or_ends::ShiftOrEnds;
-pub use tuning::SHIFT_OR_COST;
+pub use tuning::STRIDE_TWO_COST;

@@ -45,10 +45,10 @@ fn four_entries_at(entries: &[u64], text: &[u8], at: usize) -> u64x4
     ])
 }
 
-/// What probes at the eight positions from `at` on rule out, at each position or at every second one. The step is a
+/// What probes at the eight positions from `at` on rule out, at each position or at every second one. The stride is a
 /// constant, so that each search has a loop of its own.
 #[inline(always)]
-pub(crate) fn probes_from<const STEP: usize>(entries: &[u64], text: &[u8], at: usize) -> Ruled
+pub(crate) fn probes_from<const STRIDE: usize>(entries: &[u64], text: &[u8], at: usize) -> Ruled
     requires all { length entries.now ≡ ENTRIES }
     requires two { 2 ≤ at }
     requires inside { at + 7 ≤ length text.now }
@@ -58,7 +58,7 @@ pub(crate) fn probes_from<const STEP: usize>(entries: &[u64], text: &[u8], at: u
     let second = first.and_by(entry_at(entries, text, at + 2), 2);
     let third = second.and_by(entry_at(entries, text, at + 4), 4);
     let even = third.and_by(entry_at(entries, text, at + 6), 6);
-    if STEP != 1 {
+    if STRIDE != 1 {
         return even;
     }
     let fifth = even.and_by(entry_at(entries, text, at + 1), 1);
@@ -69,7 +69,7 @@ pub(crate) fn probes_from<const STEP: usize>(entries: &[u64], text: &[u8], at: u
 
 /// As `probes_from`, at the 32 positions from `at` on.
 #[inline(always)]
-pub(crate) fn four_probes<const STEP: usize>(entries: &[u64], text: &[u8], at: usize) -> FourRuled
+pub(crate) fn four_probes<const STRIDE: usize>(entries: &[u64], text: &[u8], at: usize) -> FourRuled
     requires all { length entries.now ≡ ENTRIES }
     requires two { 2 ≤ at }
     requires inside { at + 31 ≤ length text.now }
@@ -79,7 +79,7 @@ pub(crate) fn four_probes<const STEP: usize>(entries: &[u64], text: &[u8], at: u
     let second = first.and_by(four_entries_at(entries, text, at + 2), 2);
     let third = second.and_by(four_entries_at(entries, text, at + 4), 4);
     let even = third.and_by(four_entries_at(entries, text, at + 6), 6);
-    if STEP != 1 {
+    if STRIDE != 1 {
         return even;
     }
     let fifth = even.and_by(four_entries_at(entries, text, at + 1), 1);

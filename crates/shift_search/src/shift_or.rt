@@ -230,9 +230,9 @@ impl ShiftOr {
         }
     }
 
-    /// As `next_after`, at stride `STEP`, by 32 positions a turn.
+    /// As `next_after`, at this stride, by 32 positions a turn.
     #[inline(always)]
-    fn next_by_step<const STEP: usize>(
+    fn next_by_step<const STRIDE: usize>(
         &self,
         entries: &[u64],
         text: &[u8],
@@ -250,12 +250,12 @@ impl ShiftOr {
         // Single variables hold the state, and functions return new ones. Otherwise it is stored at each turn.
         let mut at = probes.at;
         let mut before = last_alone(probes.carried);
-        let (mut far, mut opened) = (at.saturating_add(LEAST_BEFORE_BLOCKS), at);
+        let (mut blocks_from, mut last_unruled) = (at.saturating_add(LEAST_BEFORE_BLOCKS), at);
         // A turn needs 32 more positions after a block of eight.
         let last_four = text.len().saturating_sub(5 * PLACES - 1);
         'fours: while at <= last_four {
             let next = at + PLACES;
-            let now = four_probes::<STEP>(entries, text, next);
+            let now = four_probes::<STRIDE>(entries, text, next);
             let ruled = now.with_those_before(before);
             before = now.after;
             at += 4 * PLACES;
@@ -264,8 +264,8 @@ impl ShiftOr {
                 if let Some(found) = self.verify_four(text, next, ruled, carried, false_positives) {
                     return Some(found);
                 }
-                if may_skip(at, far, opened) {
-                    let (passed, after) = self.pass_blocks::<STEP>(
+                if tries_blocks(at, blocks_from, last_unruled) {
+                    let (passed, after) = self.pass_blocks::<STRIDE>(
                         entries,
                         text,
                         start,
@@ -276,19 +276,19 @@ impl ShiftOr {
                     at = passed;
                     before = last_alone(after);
                     // If an end stopped the blocks, the search finds it before it tries blocks again.
-                    far = at.saturating_add(LEAST_BEFORE_BLOCKS);
+                    blocks_from = at.saturating_add(LEAST_BEFORE_BLOCKS);
                 }
-                opened = at;
+                last_unruled = at;
             }
         }
-        self.next_by_eights::<STEP>(entries, text, start, at, last_of(before), false_positives)
+        self.next_by_eights::<STRIDE>(entries, text, start, at, last_of(before), false_positives)
     }
 
     /// Continues block by block from a position up to which nothing ends. It stops before a block in which a literal
     /// ends, after a block whose ends are all ruled out, and near the end of the text. Returns the last position, and
     /// what the last probes rule out after it.
     #[inline(never)]
-    fn pass_blocks<const STEP: usize>(
+    fn pass_blocks<const STRIDE: usize>(
         &self,
         entries: &[u64],
         text: &[u8],
@@ -311,7 +311,14 @@ impl ShiftOr {
         let mut is_open = true;
         'quiet: while is_open && at < last {
             let ahead = at + PLACES;
-            let noted = probe_block::<STEP>(entries, text, ahead, before, &mut words, &mut groups);
+            let noted = probe_block::<STRIDE>(
+                entries,
+                text,
+                ahead,
+                before,
+                &mut words,
+                &mut groups,
+            );
             let count = note_words(&words, &groups, noted.count, &mut numbers);
             let mut missed = 0;
             if self.has_end(text, ahead, &words, &numbers, count, &mut missed) {
@@ -360,7 +367,7 @@ impl ShiftOr {
 
     /// As `next_after`, after probes that left no end, by eight positions a turn: the last positions of a text.
     #[inline(never)]
-    fn next_by_eights<const STEP: usize>(
+    fn next_by_eights<const STRIDE: usize>(
         &self,
         entries: &[u64],
         text: &[u8],
@@ -377,7 +384,7 @@ impl ShiftOr {
         let last = text.len().saturating_sub(2 * PLACES - 1);
         'eights: while at <= last {
             at += PLACES;
-            let now = probes_from::<STEP>(entries, text, at);
+            let now = probes_from::<STRIDE>(entries, text, at);
             let unruled = !(now.here | carried);
             carried = now.after;
             let here = Probes {
@@ -537,6 +544,6 @@ impl ShiftOr {
 
 /// Whether a search tries blocks: it has gone far, and the last group with an end that was not ruled out is near.
 #[inline(always)]
-fn may_skip(at: usize, far: usize, opened: usize) -> bool {
-    at >= far && at.saturating_sub(opened) < LEAST_BEFORE_BLOCKS
+fn tries_blocks(at: usize, blocks_from: usize, last_unruled: usize) -> bool {
+    at >= blocks_from && at.saturating_sub(last_unruled) < LEAST_BEFORE_BLOCKS
 }

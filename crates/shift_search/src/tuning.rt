@@ -4,12 +4,12 @@
 // Prices.
 
 /// Probes at each of 1,024 positions, if all ends are ruled out. How it was chosen is not recorded.
-pub(crate) const EACH_COST: usize = 4300;
+pub(crate) const STRIDE_ONE_COST: usize = 4300;
 
 /// Probes at every second of 1,024 positions, if all ends are ruled out. No estimate of shift-or is below it. Probes
 /// take about 0.28 ns a byte, but factors too cost more than their estimate. Measured with twenty lists of 30 rare
 /// literals: six take 0.69 to 0.91 of the time that a value of 2,900 gives, and the others as long.
-pub const SHIFT_OR_COST: usize = 2100;
+pub const STRIDE_TWO_COST: usize = 2100;
 
 /// A false positive, for each bucket. How it was chosen is not recorded.
 pub(crate) const FALSE_POSITIVE_COST: usize = 190;

@@ -17,7 +17,7 @@ use crate::tuning::{
     MOST_WITHOUT_FINDER, PREFILTER_SLACK, SAMPLE, SMALL_SAMPLE, SPAN, SURE, TUNED_SLACK,
 };
 use factor_search::MASKS_COST;
-use shift_search::SHIFT_OR_COST;
+use shift_search::STRIDE_TWO_COST;
 use text_ends::EndRate;
 
 /// What searches a text.
@@ -98,12 +98,12 @@ pub(crate) fn span_after(passed: usize) -> usize
 /// Whether to build the automaton before shift-or is tried: its estimate is below the estimate of factors and the least
 /// cost of shift-or.
 pub(crate) fn wants_automaton_first(by_automaton: usize, by_factors: usize) -> bool {
-    wants_automaton(by_automaton, by_factors, SHIFT_OR_COST)
+    wants_automaton(by_automaton, by_factors, STRIDE_TWO_COST)
 }
 
 /// Whether to try shift-or on the sample: the estimate of factors is above its least cost.
 pub(crate) fn wants_shift_or(by_factors: usize) -> bool {
-    SHIFT_OR_COST < by_factors
+    STRIDE_TWO_COST < by_factors
 }
 
 /// Whether to build the automaton: its estimate is below both others.

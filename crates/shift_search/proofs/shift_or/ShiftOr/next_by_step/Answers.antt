@@ -67,8 +67,8 @@ pass_blocks-passed-requires-clause-passed g c =
     (λ end later within. c.in_default-verify_four.ensures start (omega (arith, before.near)) (λ other past upto. before.none other past (omega (arith, upto))) end later (omega (arith, within))))
 
 -- and no blocks after them
-pub fours-preserved-else-may_skip : goal.fours-preserved-else-may_skip
-fours-preserved-else-may_skip g c =
+pub fours-preserved-else-tries_blocks : goal.fours-preserved-else-tries_blocks
+fours-preserved-else-tries_blocks g c =
     let b = c.args.self.now in
     let before = c.fours.invariant in
     turned b c.args.text.now c.args.start c.fours.at _ c.four_probes-now.result before (c.four_probes-now.ensures b c.requires.entries) (omega (arith, c.fours-test.true, c.saturating_sub-last_four.ensures))
