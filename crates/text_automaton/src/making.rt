@@ -14,7 +14,7 @@ impl Tables {
         self.add_state(0, 0, 0)?;
         self.grow(list)?;
         self.note_outputs()?;
-        self.partition_silent();
+        self.partition_quiet();
         Some(())
     }
 
@@ -154,7 +154,7 @@ impl Tables {
     }
 
     /// Moves the states with output after the states without.
-    fn partition_silent(&mut self) {
+    fn partition_quiet(&mut self) {
         let mut names = [0u16; MOST_STATES];
         for state in 0..MOST_STATES {
             names[state] = state as u16;

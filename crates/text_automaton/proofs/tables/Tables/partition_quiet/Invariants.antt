@@ -1,6 +1,6 @@
 use Rattle.std.proofs.Common.{◌≡◌, ◌-◌, ◌≤◌, length}
 use Rattle.text_automaton.specs.declared.tables.TheConstants.{MOST_STATES}
-use Rattle.text_automaton.proofs.tables.Tables.partition_silent.Given as goal
+use Rattle.text_automaton.proofs.tables.Tables.partition_quiet.Given as goal
 
 -- there is a name for each state
 abbrev pub invariant-loop-state : goal.invariant-loop-state
