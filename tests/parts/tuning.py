@@ -34,7 +34,7 @@ SHAPES = {
         "probing.rt": {"BLOCK", "BLOCK_BITS", "FIRST", "STEP"},
         "counts.rt": {"MASKED", "OFFSETS"},
         "grouping.rt": {"BUCKETS", "POSITIONS"},
-        "marking.rt": {"MOST_OFFSET"},
+        "hash_bits.rt": {"MOST_OFFSET"},
         "widths.rt": {"HASH_BITS", "WIDTH"},
         "factor_ends.rt": {"REACH"},
     },

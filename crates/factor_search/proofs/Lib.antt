@@ -1,3 +1,3 @@
 pub mod PendingSteps
-pub mod MarkSteps
+pub mod HashBitSteps
 pub mod FactorLemmas

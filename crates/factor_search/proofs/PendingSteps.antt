@@ -15,7 +15,7 @@ use Rattle.lane_filter.specs.Lanes.{IsMaskOf}
 use Rattle.factor_search.specs.Factors.{AreHashBits, AreWithin, Factored, offset_at}
 use Rattle.list_index.proofs.SuffixLemmas.{literal_is}
 use Rattle.factor_search.specs.PendingEnds.{ArePending}
-use Rattle.factor_search.proofs.MarkSteps.{marked_above, marked_below}
+use Rattle.factor_search.proofs.HashBitSteps.{marked_above, marked_below}
 
 -- a literal that ends in a text stands in its list
 pub listed : (l : Literals) (text : List ℕ) (place end : ℕ) → Occurs l text place end → place < length l.texts

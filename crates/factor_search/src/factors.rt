@@ -11,9 +11,9 @@ ghost use Rattle.factor_search.specs.Factors.{AreHashBits, AreWithin};
 use crate::choosing::{choose_offsets, estimate_of};
 use crate::counts::Counts;
 use crate::grouping::group;
-use crate::marking::mark_all;
+use crate::hash_bits::set_hash_bits;
 use crate::prices::cost_of_masks;
-use crate::tuning::{MARK_COST, START_COST};
+use crate::tuning::{FALSE_POSITIVE_COST, START_COST};
 use crate::widths::{HASH_BITS, WIDTH, least_width, widths_from};
 use list_index::{ListIndex, case_bits, hash_of, masked_key, word_before};
 use lit_base::{Fold, LitList};
@@ -72,7 +72,7 @@ impl Factors {
         let mut buckets = Vec::from_elem(alloc, 0, list.len())?;
         let mut hash_bits = Vec::from_elem(alloc, 0, 1 << HASH_BITS)?;
         let counts = Counts::new(alloc)?;
-        mark_all(list, &mut offsets, &mut hash_bits);
+        set_hash_bits(list, &mut offsets, &mut hash_bits);
         let masks = masks_of(list, &offsets, &mut buckets);
         Ok(Factors {
             index,
@@ -102,7 +102,7 @@ impl Factors {
         let list = self.index.list();
         self.counts.count(list, sample);
         choose_offsets(list, &self.counts, &mut self.offsets);
-        mark_all(list, &mut self.offsets, &mut self.hash_bits);
+        set_hash_bits(list, &mut self.offsets, &mut self.hash_bits);
         self.masks = masks_of(list, &self.offsets, &mut self.buckets);
         estimate_of(&self.masks, widths_from(self.least), sample, rate)
     }
@@ -137,7 +137,7 @@ impl Factors {
     /// without the work at the ends themselves.
     pub fn cost_of(&self, count: usize, tally: Tally, found: EndRate) -> usize {
         cost_of_masks(count, tally.passed, widths_from(self.least))
-            .saturating_add(tally.false_positives.saturating_mul(MARK_COST))
+            .saturating_add(tally.false_positives.saturating_mul(FALSE_POSITIVE_COST))
             .saturating_add(found.starts.saturating_mul(START_COST))
     }
 }

@@ -6,7 +6,7 @@ mod counts;
 mod factor_ends;
 mod factors;
 mod grouping;
-mod marking;
+mod hash_bits;
 mod prices;
 mod probing;
 mod tuning;

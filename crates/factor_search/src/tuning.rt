@@ -4,7 +4,7 @@
 // Prices.
 
 /// A hash bit at which nothing ends. How it was chosen is not recorded.
-pub(crate) const MARK_COST: usize = 250;
+pub(crate) const FALSE_POSITIVE_COST: usize = 250;
 
 /// The masks for 1,024 bytes, if no position passes. `text_search` charges it for the packed filter of a plan too. How
 /// it was chosen is not recorded.

@@ -4,7 +4,7 @@ use Rattle.std.proofs.lemmas.Bool.{cases_lt}
 use Rattle.std.proofs.lemmas.Nat.Bits.{bit_at-lt, bit_at_above, bit_at_and, bit_at_ones}
 use Rattle.factor_search.specs.Factors.{offset_at}
 use Rattle.factor_search.proofs.PendingSteps.{AreLeft, left_further, masked_pending}
-use Rattle.factor_search.proofs.MarkSteps.{marked_below}
+use Rattle.factor_search.proofs.HashBitSteps.{marked_below}
 use Rattle.factor_search.proofs.probing.probe_passing.Goals as goal
 
 pub places-init : goal.places-init

@@ -3,7 +3,7 @@ use Rattle.std.proofs.Common.{◌≡◌, ◌+◌, ◌-◌, ap, sym, ◌∙◌, s
 use Rattle.std.specs.Int.{bit_at}
 use Rattle.std.proofs.lemmas.Nat.Bits.{bit_at-trailing_zeros, bit_at-zero}
 use Rattle.lit_base.specs.Occurrences.{HasEnd}
-use Rattle.factor_search.proofs.MarkSteps.{marked_after, marked_first}
+use Rattle.factor_search.proofs.HashBitSteps.{marked_after, marked_first}
 use Rattle.factor_search.proofs.factor_ends.Pending.first_end.Goals as goal
 
 pub loop-rest-init : goal.loop-rest-init

@@ -12,8 +12,8 @@ invariant_of-result c =
     let same = c.list-list.ensures ∙ c.deref.ensures in
     let count = ap (λ (l : Literals). length l.texts) same in (
       subst (λ (l : Literals). IsLeastWidth l c.least_width-least.result) same c.least_width-least.ensures,
-      subst (λ (l : Literals). AreMarkedByFactors l c.mark_all.new.offsets.items c.mark_all.new.hash_bits.items (length l.texts)) same c.mark_all.ensures,
-      subst (λ (l : Literals). CoversPrefixes l (length l.texts) c.mark_all.new.offsets.items (widened c.masks_of-masks.result)) same c.masks_of-masks.ensures.masks,
+      subst (λ (l : Literals). AreMarkedByFactors l c.set_hash_bits.new.offsets.items c.set_hash_bits.new.hash_bits.items (length l.texts)) same c.set_hash_bits.ensures,
+      subst (λ (l : Literals). CoversPrefixes l (length l.texts) c.set_hash_bits.new.offsets.items (widened c.masks_of-masks.result)) same c.masks_of-masks.ensures.masks,
       omega (arith, c.masks_of-masks.ensures.buckets, c.in_ok-buckets.ensures.len, c.len-2.ensures.value, count),
       omega (arith, c.in_ok-counts.ensures),
     )

@@ -11,8 +11,8 @@ invariant_of-self c =
     let same = c.list-list.ensures ∙ c.deref.ensures in
     let count = ap (λ (l : Literals). length l.texts) same in (
       c.self.invariant.0,
-      subst (λ (l : Literals). AreMarkedByFactors l c.mark_all.new.offsets.items c.mark_all.new.hash_bits.items (length l.texts)) same c.mark_all.ensures,
-      subst (λ (l : Literals). CoversPrefixes l (length l.texts) c.mark_all.new.offsets.items (widened c.masks_of-self-inside.result)) same c.masks_of-self-inside.ensures.masks,
+      subst (λ (l : Literals). AreMarkedByFactors l c.set_hash_bits.new.offsets.items c.set_hash_bits.new.hash_bits.items (length l.texts)) same c.set_hash_bits.ensures,
+      subst (λ (l : Literals). CoversPrefixes l (length l.texts) c.set_hash_bits.new.offsets.items (widened c.masks_of-self-inside.result)) same c.masks_of-self-inside.ensures.masks,
       omega (arith, c.masks_of-self-inside.ensures.buckets, c.self.invariant.3),
       omega (arith, c.count.ensures),
     )

@@ -1,5 +1,5 @@
 use Rattle.factor_search.specs.Factors.{AreMarkedByFactors}
-use Rattle.factor_search.proofs.marking.mark_all.Given as goal
+use Rattle.factor_search.proofs.hash_bits.set_hash_bits.Given as goal
 
 -- the literals passed are marked, and nothing else is
 abbrev pub invariant-loop-place : goal.invariant-loop-place

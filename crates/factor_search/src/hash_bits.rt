@@ -12,19 +12,19 @@ const MOST_OFFSET: usize = 7;
 
 /// Sets the hash bit of each literal anew, by the factor that ends at its offset before the literal's end, or nearer to
 /// its end if there is no room.
-pub(crate) fn mark_all(list: &LitList, offsets: &mut Vec<u8>, hash_bits: &mut Vec<u8>)
+pub(crate) fn set_hash_bits(list: &LitList, offsets: &mut Vec<u8>, hash_bits: &mut Vec<u8>)
     requires offsets { vec_len offsets.old ≡ length list.now.texts }
     requires hash_bits { vec_len hash_bits.old ≡ 2 ^ HASH_BITS }
     ensures { AreMarkedByFactors list.now offsets.new.items hash_bits.new.items (length list.now.texts) }
 {
     hash_bits.fill(0);
     for place in 0..list.len() {
-        mark_one(list, place, offsets, hash_bits);
+        set_hash_bit_of(list, place, offsets, hash_bits);
     }
 }
 
 /// Sets the hash bit of a literal by the factor at its offset, or nearer to its end if there is no room.
-fn mark_one(list: &LitList, place: usize, offsets: &mut Vec<u8>, hash_bits: &mut Vec<u8>)
+fn set_hash_bit_of(list: &LitList, place: usize, offsets: &mut Vec<u8>, hash_bits: &mut Vec<u8>)
     requires within { place < length list.now.texts }
     requires marked { AreMarkedByFactors list.now offsets.old.items hash_bits.old.items place }
     ensures { AreMarkedByFactors list.now offsets.new.items hash_bits.new.items (place + 1) }

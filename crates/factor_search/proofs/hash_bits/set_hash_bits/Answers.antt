@@ -5,7 +5,7 @@ use Rattle.std.proofs.lemmas.Bool.{cases_lt}
 use Rattle.std.proofs.lemmas.List.{get_or-replicate, get_or_past, length-replicate}
 use Rattle.std.proofs.lemmas.Nat.Bits.{bit_at-zero}
 use Rattle.factor_search.specs.Factors.{AreMarkedByFactors}
-use Rattle.factor_search.proofs.marking.mark_all.Goals as goal
+use Rattle.factor_search.proofs.hash_bits.set_hash_bits.Goals as goal
 
 zero_at : (n i : ℕ) → get_or {A = ℕ} (replicate n 0) i 0 ≡ 0
 zero_at n i = elim (cases_lt i n) [ inl low ↦ get_or-replicate {A = ℕ} n i 0 0 low | inr past ↦ get_or_past (replicate {A = ℕ} n 0) i 0 (omega (arith, past, length-replicate {A = ℕ} n 0)) ]

@@ -7,7 +7,7 @@ use Rattle.list_index.specs.Suffixes.{hash_of, suffix_key}
 use Rattle.factor_search.specs.declared.widths.TheConstants.{HASH_BITS}
 use Rattle.list_index.proofs.HashBitLemmas.{more_key_bits}
 use Rattle.factor_search.specs.Factors.{IsFactor, factor_key}
-use Rattle.factor_search.proofs.marking.mark_one.Goals as goal
+use Rattle.factor_search.proofs.hash_bits.set_hash_bit_of.Goals as goal
 
 pub returns : goal.returns
 returns c =
