@@ -32,10 +32,10 @@ SHAPES = {
     "text_search": {},
     "factor_search": {
         "probing.rt": {"BLOCK", "BLOCK_BITS", "FIRST", "STEP"},
-        "counts.rt": {"MASKED", "OFFSETS"},
+        "counts.rt": {"MASKED"},
         "grouping.rt": {"BUCKETS", "POSITIONS"},
         "hash_bits.rt": {"MOST_OFFSET"},
-        "widths.rt": {"HASH_BITS", "WIDTH"},
+        "widths.rt": {"HASH_BITS", "OFFSETS", "WIDTH"},
         "factor_ends.rt": {"REACH"},
     },
 }

@@ -2,14 +2,10 @@
 ghost use Rattle.std.specs.Prelude.{◌≡◌, ◌^◌, ◌<◌, ◌≤◌, IfOk, length, vec_capacity, vec_len};
 ghost use Rattle.factor_search.specs.declared.widths.TheConstants.{HASH_BITS};
 
-use crate::widths::{HASH_BITS, WIDTH};
+use crate::widths::{HASH_BITS, OFFSETS, WIDTH};
 use list_index::{case_bits, hash_of, last_word, masked_key, suffix_key};
 use lit_base::LitList;
 use std::alloc::{AllocError, Global};
-
-/// The factors of a literal to choose from: the last of them ends at the literal's end, each other a byte before the
-/// next.
-const OFFSETS: usize = 8;
 
 /// The masks see this many bytes of a factor.
 const MASKED: usize = 3;

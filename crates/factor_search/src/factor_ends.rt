@@ -8,12 +8,13 @@ ghost use Rattle.factor_search.specs.declared.factor_ends.TheConstants.{REACH};
 
 use crate::factors::Factors;
 use crate::probing::{BLOCK, next_pending};
+use crate::widths::OFFSETS;
 use std::alloc::AllocError;
 use std::marker::Model;
 use text_ends::{EndWalk, Hit, Tally, add_hits_at};
 
 /// Positions from a probe to the last end that its hash bits mark.
-const REACH: usize = 7;
+const REACH: usize = OFFSETS - 1;
 
 /// The pending ends after a position. A search continues with them after each end that it finds.
 #[derive(Clone, Copy)]

@@ -3,12 +3,12 @@ ghost use Rattle.std.specs.Prelude.{◌≡◌, ◌+◌, ◌^◌, ◌<◌, length
 ghost use Rattle.factor_search.specs.declared.widths.TheConstants.{HASH_BITS};
 ghost use Rattle.factor_search.specs.Factors.{AreMarkedByFactors};
 
-use crate::widths::{HASH_BITS, WIDTH};
+use crate::widths::{HASH_BITS, OFFSETS, WIDTH};
 use list_index::{set_hash_bit, suffix_key};
 use lit_base::LitList;
 
 /// The largest offset of a factor: the distance to the end that the last bit of a byte stands for.
-const MOST_OFFSET: usize = 7;
+const MOST_OFFSET: usize = OFFSETS - 1;
 
 /// Sets the hash bit of each literal anew, by the factor that ends at its offset before the literal's end, or nearer to
 /// its end if there is no room.

@@ -1,10 +1,14 @@
-//! The widths of factors, and of their hashes.
+//! The widths and offsets of factors, and the width of their hashes.
 ghost use Rattle.factor_search.specs.Widths.{IsLeastWidth};
 
 use lit_base::LitList;
 
 /// Bytes of a factor, unless the literal is shorter.
 pub(crate) const WIDTH: usize = 4;
+
+/// The factors of a literal to choose from: the last of them ends at the literal's end, each other a byte before the
+/// next. A byte of hash bits has a bit for each.
+pub(crate) const OFFSETS: usize = 8;
 
 /// The number of bits of a factor's hash. Few of the 65,536 hashes have a bit set, so other bytes rarely match.
 pub(crate) const HASH_BITS: usize = 16;
