@@ -176,7 +176,7 @@ fn prefixes_of(
     if offsets.len() < count || buckets.len() < count {
         return Ok(None);
     }
-    Ok(Some(ByteMasks::of_prefixes(&list, count, offsets, buckets)))
+    Ok(Some(ByteMasks::of_prefixes(&list, offsets, buckets)))
 }
 
 #[test]

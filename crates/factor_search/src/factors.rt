@@ -150,8 +150,7 @@ fn masks_of(list: &LitList, offsets: &[u8], buckets: &mut Vec<u8>) -> ByteMasks
     ensures buckets { vec_len buckets.new ≡ vec_len buckets.old }
 {
     group(list, offsets, buckets);
-    let count = list.len();
-    ByteMasks::of_prefixes(list, count, offsets, buckets)
+    ByteMasks::of_prefixes(list, offsets, buckets)
 }
 
 /// The hash bits of a position, by all widths from the least on.

@@ -11,16 +11,15 @@ use crate::half::{Half, half_of};
 use lit_base::{Fold, LitList};
 
 impl ByteMasks {
-    /// The tables for the first `count` literals of a list, by their prefixes. The prefix of a literal ends
-    /// `offsets[place]` bytes before the literal does. Where a literal longer than its offset ends in a text, its
-    /// prefix ends at a candidate. `buckets[place]`, modulo eight, is the bucket of a prefix; it decides only how many
-    /// other positions pass.
-    pub fn of_prefixes(list: &LitList, count: usize, offsets: &[u8], buckets: &[u8]) -> ByteMasks
-        requires count { count ≤ length list.now.texts }
-        requires offsets { count ≤ length offsets.now }
-        requires buckets { count ≤ length buckets.now }
-        ensures { CoversPrefixes list.now count offsets.now (widened result) }
+    /// The tables for the literals of a list, by their prefixes. The prefix of a literal ends `offsets[place]` bytes
+    /// before the literal does. Where a literal longer than its offset ends in a text, its prefix ends at a candidate.
+    /// `buckets[place]`, modulo eight, is the bucket of a prefix; it decides only how many other positions pass.
+    pub fn of_prefixes(list: &LitList, offsets: &[u8], buckets: &[u8]) -> ByteMasks
+        requires offsets { length list.now.texts ≤ length offsets.now }
+        requires buckets { length list.now.texts ≤ length buckets.now }
+        ensures { CoversPrefixes list.now (length list.now.texts) offsets.now (widened result) }
     {
+        let count = list.len();
         ByteMasks {
             low: [
                 table(list, count, offsets, buckets, 0, Half::Low),
@@ -36,7 +35,7 @@ impl ByteMasks {
     }
 }
 
-/// The table of one position by one half.
+/// The table of one position by one half, for the first `count` literals.
 fn table(
     list: &LitList,
     count: usize,
