@@ -8,6 +8,9 @@ ghost use Rattle.scan_wire.specs.Messages.{Hits, Plan, Refused, reply_parts};
 ghost use Rattle.scan_wire.specs.Numbers.{u16_text, u32_text, u64_text};
 
 use crate::fault::Fault;
+use crate::kinds::{
+    CLOSED_KIND, FED_KIND, HITS_KIND, OPENED_KIND, PLAN_KIND, PUBLISHED_KIND, REFUSED_KIND,
+};
 use crate::message::Reply;
 use crate::numbers::{push_u16, push_u32, push_u64};
 use flow_scan::Hit;
@@ -76,7 +79,7 @@ fn push_block(out: &mut Vec<u8>, stream: u32, hits: &[Hit]) -> Result<(), AllocE
     ensures kept { Extends out.old.items out.new.items }
 {
     let count = hits.len() as u32;
-    push_head(out, 0x13, stream, 2 + 10 * count)?;
+    push_head(out, HITS_KIND, stream, 2 + 10 * count)?;
     push_u16(out, hits.len() as u16)?;
     push_hits(out, hits)
 }
@@ -97,7 +100,7 @@ fn push_plan(
     ensures kept { Extends out.old.items out.new.items }
 {
     let ends_count = ends.len() as u8;
-    push_head(out, 0x16, stream, 12 + 2 * u32::from(ends_count))?;
+    push_head(out, PLAN_KIND, stream, 12 + 2 * u32::from(ends_count))?;
     out.push(flags(fold, profile))?;
     push_u16(out, count)?;
     push_u64(out, cost)?;
@@ -123,7 +126,7 @@ fn push_refusal(out: &mut Vec<u8>, stream: u32, code: u8, detail: u16) -> Result
         (out.new.items ≡ out.old.items ++ reply_text (Refused stream code detail)) }
     ensures kept { Extends out.old.items out.new.items }
 {
-    push_head(out, 0x17, stream, 3)?;
+    push_head(out, REFUSED_KIND, stream, 3)?;
     out.push(code)?;
     push_u16(out, detail)
 }
@@ -135,11 +138,11 @@ fn push_reply(out: &mut Vec<u8>, reply: &Reply) -> Result<(), AllocError>
     ensures kept { Extends out.old.items out.new.items }
 {
     match reply {
-        Reply::Published { number } => push_number(out, 0x11, 0, *number),
-        Reply::Opened { stream } => push_bare(out, 0x12, *stream),
+        Reply::Published { number } => push_number(out, PUBLISHED_KIND, 0, *number),
+        Reply::Opened { stream } => push_bare(out, OPENED_KIND, *stream),
         Reply::Hits { stream, hits } => push_block(out, *stream, hits),
-        Reply::Fed { stream, place } => push_number(out, 0x14, *stream, *place),
-        Reply::Closed { stream } => push_bare(out, 0x15, *stream),
+        Reply::Fed { stream, place } => push_number(out, FED_KIND, *stream, *place),
+        Reply::Closed { stream } => push_bare(out, CLOSED_KIND, *stream),
         Reply::Plan {
             stream,
             fold,

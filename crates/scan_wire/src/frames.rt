@@ -8,6 +8,7 @@ ghost use Rattle.scan_wire.specs.Numbers.{u32_text};
 ghost use Rattle.scan_wire.specs.Reading.{StartsWith, StartsWithFrame, parts_of};
 
 use crate::fault::{Cause, Fault};
+use crate::kinds::{CLOSE_KIND, FEED_KIND, OPEN_KIND, PUBLISH_KIND, SHOW_PLAN_KIND};
 use crate::message::Borrowed;
 use crate::numbers::first_u32;
 use crate::reading::{BAD_PAYLOAD, list_of, number_of};
@@ -144,14 +145,14 @@ fn request_of(alloc: Global, frame: Frame<'_>) -> Result<Borrowed<'_>, Fault>
     ensures starved { result ≡ Err OutOfMemory → TakesMemory (parts_of frame.entry) }
 {
     match frame.kind {
-        0x01 => publish_of(alloc, frame),
-        0x02 => open_of(frame),
-        0x03 => Ok(Borrowed::Feed {
+        PUBLISH_KIND => publish_of(alloc, frame),
+        OPEN_KIND => open_of(frame),
+        FEED_KIND => Ok(Borrowed::Feed {
             stream: frame.stream,
             bytes: frame.payload,
         }),
-        0x04 => close_of(frame),
-        0x05 => show_plan_of(frame),
+        CLOSE_KIND => close_of(frame),
+        SHOW_PLAN_KIND => show_plan_of(frame),
         _ => Err(Fault::BadFrame { cause: Cause::Kind }),
     }
 }

@@ -6,6 +6,7 @@ mod decoder;
 mod encoding;
 mod fault;
 mod frames;
+mod kinds;
 mod laws;
 mod message;
 mod numbers;
