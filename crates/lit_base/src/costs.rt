@@ -21,6 +21,9 @@ const WEIGHTS: [u64; 7] = [4096, 512, 151, 64, 32, 18, 11];
 /// The weight of every greater shortest length.
 const LEAST_WEIGHT: u64 = 8;
 
+/// What a bucket costs, whatever it holds.
+const BUCKET_COST: u64 = 200;
+
 /// The weight of a group of literals whose shortest has `shortest` bytes.
 pub fn weight(shortest: usize) -> u64
     requires { 1 ≤ shortest }
@@ -45,7 +48,7 @@ pub fn cost(count: usize, shortest: usize) -> u64
     ensures bound { result < 2 ^ 40 }
 {
     let count = count as u64;
-    200 + weight(shortest) * (count * count)
+    BUCKET_COST + weight(shortest) * (count * count)
 }
 
 /// The cost of the literals from place `start` up to but not including `end`, as one run. They stand by length, so the
