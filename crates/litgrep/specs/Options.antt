@@ -1,22 +1,11 @@
 -- The options in clap's matches. POSIX.1-2017 `grep`, OPTIONS and OPERANDS.
-use Rattle.std.specs.Prelude.{◌≡◌, ℕ, ◌||◌, Bool, true, false, List, [], map, length, take, drop, nat_lt, if◌then◌else◌, codes, string_bytes}
-use Rattle.std.specs.Option.{option_map_or}
-use Rattle.std.specs.Borrow.{Bor}
-use Rattle.clap.specs.Words.{found_of, matched_of, raw_values}
+use Rattle.std.specs.Prelude.{◌≡◌, ℕ, ◌||◌, Bool, true, false, List, map, length, take, drop, nat_lt, if◌then◌else◌, codes, string_bytes}
 use Rattle.clap.specs.declared.parser.matches.ArgMatches.{ArgMatches}
 use Rattle.lit_base.specs.declared.fold.Fold.TheVariants.{No, Ascii}
 use Rattle.grep_run.specs.declared.options.GrepOptions.{GrepOptions}
-use Rattle.program_words.specs.Matches.{is_used}
+use Rattle.program_words.specs.Matches.{is_used, texts_of}
 use Rattle.program_words.specs.declared.fault.Fault.{Fault}
 use Rattle.program_words.specs.declared.fault.Fault.TheVariants.{Usage, OutOfMemory}
-
--- the texts after references
-abbrev pub texts : List (Bor (List ℕ)) → List (List ℕ)
-texts = map (λ text. text.now)
-
--- the texts given for an argument, none where it was not used
-abbrev pub texts_of : ArgMatches → List ℕ → List (List ℕ)
-texts_of m id = option_map_or raw_values (matched_of (found_of m) id) []
 
 -- -e or -f was used, so that no operand is a pattern list
 abbrev pub names_patterns : ArgMatches → Bool

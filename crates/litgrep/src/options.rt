@@ -1,13 +1,13 @@
 //! The options in clap's matches. POSIX.1-2017 `grep`, OPTIONS and OPERANDS.
-ghost use Rattle.std.specs.Prelude.{◌≡◌, IfErr, IfOk, OnOk, codes, if◌then◌else◌, map, string_bytes, true};
+ghost use Rattle.std.specs.Prelude.{◌≡◌, IfErr, IfOk, OnOk, codes, if◌then◌else◌, true};
 ghost use Rattle.lit_base.specs.declared.fold.Fold.TheVariants.{Ascii, No};
-ghost use Rattle.litgrep.specs.Options.{IsNoPattern, IsOptionsOf, IsRefusalOf, Specifies, gives_pattern, texts, texts_of};
-ghost use Rattle.program_words.specs.Matches.{is_used};
+ghost use Rattle.litgrep.specs.Options.{IsNoPattern, IsOptionsOf, IsRefusalOf, Specifies, gives_pattern};
+ghost use Rattle.program_words.specs.Matches.{is_used, texts};
 
 use clap::ArgMatches;
 use grep_run::GrepOptions;
 use lit_base::Fold;
-use program_words::Fault;
+use program_words::{Fault, strings, values};
 use std::alloc::{AllocError, Global};
 
 /// The options in clap's matches, each under the name of its field as id.
@@ -76,22 +76,4 @@ fn fold_of(matches: &ArgMatches<'_>) -> Fold
     } else {
         Fold::No
     }
-}
-
-/// The texts given for an argument, of all its uses.
-fn values<'m, 'a>(matches: &'m ArgMatches<'a>, id: &str) -> &'m [&'a str]
-    ensures { texts result.now ≡ texts_of matches.now id.now }
-{
-    matches.get_strs(id).unwrap_or_default()
-}
-
-/// Copies of the words.
-fn strings(alloc: Global, words: &[&str]) -> Result<Vec<String>, AllocError>
-    ensures { IfOk result (λ copies. map string_bytes copies.items ≡ texts words.now) }
-{
-    let mut copies = Vec::with_capacity(alloc, words.len())?;
-    for word in words {
-        copies.push(String::from_str(alloc, word)?)?;
-    }
-    Ok(copies)
 }

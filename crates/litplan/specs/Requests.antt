@@ -1,9 +1,7 @@
 -- The request in clap's matches of a subcommand.
 use Rattle.std.specs.Prelude.{◌≡◌, ◌⊎◌, ℕ, Bool, List, [], None, Some, codes, false, if◌then◌else◌, is_some, map, string_bytes, true, unwrap_or}
-use Rattle.std.specs.Borrow.{Bor}
-use Rattle.std.specs.Option.{option_map_or}
 use Rattle.std.specs.Str.{bytes_eq}
-use Rattle.clap.specs.Words.{first_value, found_of, matched_of, one_text, raw_values}
+use Rattle.clap.specs.Words.{first_value, found_of, matched_of, one_text}
 use Rattle.clap.specs.declared.parser.matches.ArgMatches.{ArgMatches}
 use Rattle.lit_base.specs.declared.fold.Fold.{Fold}
 use Rattle.lit_base.specs.declared.fold.Fold.TheVariants.{Ascii, No}
@@ -14,19 +12,11 @@ use Rattle.plan_pack.specs.declared.notation.Notation.TheVariants.{Bytes, Hex}
 use Rattle.plan_pack.specs.declared.notation.Reading.{Reading}
 use Rattle.plan_run.specs.declared.request.Request.{Request}
 use Rattle.plan_run.specs.declared.request.Request.TheVariants.{Check, CheckPlan, Explain, ExplainCertificate, ExplainPlan, Migrate, Pack, Plan, Scan}
-use Rattle.program_words.specs.Matches.{IsNumber}
+use Rattle.program_words.specs.Matches.{IsNumber, texts_of}
 
 -- the text of an argument, empty where it has none
 abbrev pub text_of : ArgMatches → List ℕ → List ℕ
 text_of m id = unwrap_or (first_value (found_of m) id) []
-
--- the texts behind references
-abbrev pub texts : List (Bor (List ℕ)) → List (List ℕ)
-texts = map (λ text. text.now)
-
--- the texts given for an argument, none where it was not used
-abbrev pub texts_of : ArgMatches → List ℕ → List (List ℕ)
-texts_of m id = option_map_or raw_values (matched_of (found_of m) id) []
 
 -- whether an argument was given
 abbrev pub is_given : ArgMatches → List ℕ → Bool

@@ -1,7 +1,7 @@
 //! The words of the command line, read with clap.
-ghost use Rattle.std.specs.Prelude.{◌≡◌, IfOk, IfSome, codes, map, string_bytes};
+ghost use Rattle.std.specs.Prelude.{◌≡◌, IfOk, IfSome, codes, string_bytes};
 ghost use Rattle.program_words.specs.Matches.{IsNumber};
-ghost use Rattle.litplan.specs.Requests.{IsFlag, IsFold, IsNotation, IsPlace, IsReading, IsRequestOf, is_given, profile_of, text_of, texts, texts_of};
+ghost use Rattle.litplan.specs.Requests.{IsFlag, IsFold, IsNotation, IsPlace, IsReading, IsRequestOf, is_given, profile_of, text_of};
 
 use clap::{Arg, ArgAction, ArgMatches, Command, value_parser};
 use lit_base::{Fold, Profile};
@@ -9,7 +9,7 @@ use plan_run::{
     CheckRequest, ExplainRequest, Notation, PackRequest, PatternFiles, PlanRequest, Reading,
     Request, Scan, Workers,
 };
-use program_words::{Fault, VERSION, matches_of, with_arg, with_subcommand};
+use program_words::{Fault, VERSION, matches_of, strings, values, with_arg, with_subcommand};
 use std::alloc::{AllocError, Global};
 
 /// What the words after the program's name ask for.
@@ -205,24 +205,6 @@ fn flag_of(matches: &ArgMatches<'_>, id: &str) -> bool
     ensures { IsFlag matches.now id.now result }
 {
     matches.get_flag(id)
-}
-
-/// The texts given for an argument.
-fn values<'m, 'a>(matches: &'m ArgMatches<'a>, id: &str) -> &'m [&'a str]
-    ensures { texts result.now ≡ texts_of matches.now id.now }
-{
-    matches.get_strs(id).unwrap_or_default()
-}
-
-/// Copies of the words.
-fn strings(alloc: Global, words: &[&str]) -> Result<Vec<String>, AllocError>
-    ensures { IfOk result (λ copies. map string_bytes copies.items ≡ texts words.now) }
-{
-    let mut copies = Vec::with_capacity(alloc, words.len())?;
-    for word in words {
-        copies.push(String::from_str(alloc, word)?)?;
-    }
-    Ok(copies)
 }
 
 /// The value of an argument, which clap requires.

@@ -2,10 +2,12 @@
 //! text that the program prints.
 #![tactic(auto)]
 
+mod arguments;
 mod command_parts;
 mod fault;
 mod reading;
 
+pub use arguments::{strings, values};
 pub use command_parts::{with_arg, with_subcommand};
 pub use fault::Fault;
 pub use reading::{VERSION, matches_of, words};

@@ -1,22 +1,11 @@
 -- The request in clap's matches.
-use Rattle.std.specs.Prelude.{◌≡◌, ℕ, List, [], codes, false, map, true}
-use Rattle.std.specs.Borrow.{Bor}
-use Rattle.std.specs.Option.{option_map_or}
-use Rattle.clap.specs.Words.{found_of, matched_of, raw_values}
+use Rattle.std.specs.Prelude.{◌≡◌, codes, false, true}
 use Rattle.clap.specs.declared.parser.matches.ArgMatches.{ArgMatches}
-use Rattle.program_words.specs.Matches.{IsNumber, is_used}
+use Rattle.program_words.specs.Matches.{IsNumber, is_used, texts_of}
 use Rattle.scan_run.specs.LoadingFiles.{names_of}
 use Rattle.scand.specs.declared.words.Request.{Request}
 use Rattle.scand.specs.declared.words.Service.{Service}
 use Rattle.scand.specs.declared.words.Service.TheVariants.{Alone, Listen}
-
--- the texts behind references
-abbrev pub texts : List (Bor (List ℕ)) → List (List ℕ)
-texts = map (λ text. text.now)
-
--- the texts given for an argument, none where it was not used
-abbrev pub texts_of : ArgMatches → List ℕ → List (List ℕ)
-texts_of m id = option_map_or raw_values (matched_of (found_of m) id) []
 
 -- one client is served where --stdio was used, and otherwise a number of connections to a port
 abbrev pub IsServiceOf : ArgMatches → Service → Type 0

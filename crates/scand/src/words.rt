@@ -1,12 +1,12 @@
 //! The words of the command line, read with clap.
 ghost use Rattle.std.specs.Prelude.{◌≡◌, IfOk, IfSome, Some, codes, true};
-ghost use Rattle.program_words.specs.Matches.{IsNumber, is_used};
+ghost use Rattle.program_words.specs.Matches.{IsNumber, is_used, texts_of};
 ghost use Rattle.scan_run.specs.LoadingFiles.{names_of};
-ghost use Rattle.scand.specs.Requests.{IsRequestOf, IsServiceOf, texts, texts_of};
+ghost use Rattle.scand.specs.Requests.{IsRequestOf, IsServiceOf};
 
 use crate::help::{HELP, USAGE};
 use clap::{Arg, ArgAction, ArgMatches, Command, value_parser};
-use program_words::{Fault, VERSION, matches_of};
+use program_words::{Fault, VERSION, matches_of, values};
 use scan_run::{Connections, MAX_CONNECTIONS};
 use std::alloc::{AllocError, Global};
 
@@ -93,13 +93,6 @@ fn plans_of(alloc: Global, matches: &ArgMatches<'_>) -> Result<Vec<String>, Allo
         plans.push(String::from_str(alloc, name)?)?;
     }
     Ok(plans)
-}
-
-/// The texts given for an argument, of all its uses.
-fn values<'m, 'a>(matches: &'m ArgMatches<'a>, id: &str) -> &'m [&'a str]
-    ensures { texts result.now ≡ texts_of matches.now id.now }
-{
-    matches.get_strs(id).unwrap_or_default()
 }
 
 /// What scand takes.

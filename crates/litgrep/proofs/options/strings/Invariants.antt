@@ -1,6 +1,0 @@
-use Rattle.std.proofs.Common.{◌≡◌, map, string_bytes, take}
-use Rattle.litgrep.specs.Options.{texts}
-use Rattle.litgrep.proofs.options.strings.Given as goal
-
-abbrev pub invariant-loop-word : goal.invariant-loop-word
-invariant-loop-word l = map string_bytes l.copies.items ≡ texts (take l.word-index l.words)
