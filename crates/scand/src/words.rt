@@ -6,7 +6,7 @@ ghost use Rattle.scand.specs.Requests.{IsRequestOf, IsServiceOf};
 
 use crate::help::{HELP, USAGE};
 use clap::{Arg, ArgAction, ArgMatches, Command, value_parser};
-use program_words::{Fault, VERSION, matches_of, values};
+use program_words::{Fault, VERSION, matches_of, strings, values};
 use scan_run::{Connections, MAX_CONNECTIONS};
 use std::alloc::{AllocError, Global};
 
@@ -87,12 +87,7 @@ fn connections_of(matches: &ArgMatches<'_>) -> Option<Connections>
 fn plans_of(alloc: Global, matches: &ArgMatches<'_>) -> Result<Vec<String>, AllocError>
     ensures { IfOk result (λ plans. names_of plans.items ≡ texts_of matches.now (codes "plans")) }
 {
-    let names = values(matches, "plans");
-    let mut plans = Vec::with_capacity(alloc, names.len())?;
-    for name in names {
-        plans.push(String::from_str(alloc, name)?)?;
-    }
-    Ok(plans)
+    strings(alloc, values(matches, "plans"))
 }
 
 /// What scand takes.
