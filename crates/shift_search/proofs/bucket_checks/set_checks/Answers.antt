@@ -1,5 +1,5 @@
 -- Each literal adds its bit alone.
-use Rattle.std.proofs.Common.{◌≡◌, ◌<◌, [], length, slice_index, ap, ◌∙◌, arith}
+use Rattle.std.proofs.Common.{◌≡◌, ◌<◌, [], length, slice_index, ◌∙◌, arith}
 use Rattle.std.proofs.lemmas.List.{get_or_read}
 use Rattle.lit_base.specs.Literals.{literal_at}
 use Rattle.list_index.specs.Suffixes.{suffix_key}
@@ -17,7 +17,5 @@ loop-place-preserved c =
     let inside : place < length l.texts = omega (arith, c.loop-place-test.true) in
     let here : c.get-literal.result.now ≡ literal_at l place = get_or_read l.texts place c.get-literal.result.now inside c.get-literal.ensures.value [] in
     let its : c.bucket_of-bucket.result ≡ bucket_at buckets place = c.bucket_of-bucket.ensures in
-    let width : c.index.result.now ≡ slice_index widths (bucket_at buckets place) =
-    get_or_read widths c.bucket_of-bucket.result c.index.result.now (omega (arith, its, c.requires.widths.eight)) c.index.ensures 0 ∙ ap (slice_index widths) its in
-    let key : c.suffix_key-key.result ≡ bucket_key l buckets widths place = c.suffix_key-key.ensures ∙ (λ i. suffix_key (c.fold.ensures i) (here i) (length (here i)) (width i)) in
+    let key : c.suffix_key-key.result ≡ bucket_key l buckets widths place = c.suffix_key-key.ensures ∙ (λ i. suffix_key (c.fold.ensures i) (here i) (length (here i)) (slice_index widths (its i))) in
     more_key_bits CHECK_BITS (bucket_key l buckets widths) (bucket_at buckets) place c.suffix_key-key.result c.bucket_of-bucket.result c.loop-place.table.items c.set_hash_bit.new.table.items c.loop-place.invariant key its (omega (arith, c.set_hash_bit.ensures.len)) c.set_hash_bit.ensures.set
