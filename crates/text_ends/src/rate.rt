@@ -1,7 +1,7 @@
 //! How often literals end in a text.
 ghost use Rattle.std.specs.Prelude.{◌≡◌};
 
-/// How many literals ended in some bytes of a text, and after how many of the ends a new search began. A search for
+/// At how many positions of some bytes of a text literals end, and after how many of these a new search began. A search for
 /// single ends begins anew after each, a scan after none.
 #[derive(Clone, Copy, Debug)]
 pub struct EndRate {
