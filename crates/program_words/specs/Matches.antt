@@ -1,5 +1,5 @@
 -- Clap's matches for an argument.
-use Rattle.std.specs.Prelude.{◌≡◌, ℕ, Bool, List, [], Some, codes, false, map, nat_lt, true}
+use Rattle.std.specs.Prelude.{◌≡◌, ℕ, Bool, List, [], Some, map, nat_lt}
 use Rattle.std.specs.Borrow.{Bor}
 use Rattle.std.specs.Option.{option_map_or}
 use Rattle.std.specs.Str.Parse.{digits_value, without_leading_plus}

@@ -186,7 +186,7 @@ opened_none s stream number reply none stranger replied =
     }
 
 -- the code in the first of some replies, if that is a refusal
-first_code : List ReplyParts → ℕ
+abbrev first_code : List ReplyParts → ℕ
 first_code [] = 0
 first_code (Published number ∷ replies) = 0
 first_code (Opened stream ∷ replies) = 0
