@@ -48,7 +48,8 @@ impl LitList {
         Ok(LitList { fold, literals })
     }
 
-    /// As `normal_form`, with the place in the list of each raw pattern, and whether one is null. It takes a third longer.
+    /// As `normal_form`, with the place in the list of each raw pattern, for which it folds each pattern once more, and
+    /// whether one is null.
     pub fn normal(alloc: Global, raw: &RawList, fold: Fold) -> Result<(LitList, Normal), Fault>
         ensures list { IfOk result (λ found. found.0 ≡ record { folding = fold; texts = normal_form fold raw.now }) }
         ensures form { IfOk result (λ found. IsNormalForm fold raw.now found.0.texts) }
