@@ -40,8 +40,8 @@ FindsLoaded loaded (Feed stream piece) replies = ⊤
 FindsLoaded loaded (Close stream) replies = ⊤
 FindsLoaded loaded (ShowPlan stream) replies = ⊤
 
--- A request is one event of a session. A plan that it gains by this has no number of another loaded plan, and each loaded plan
--- is found.
+-- A request is one event of a session. A plan that it gains by this has no number of another loaded plan, and each loaded
+-- plan is found.
 pub record IsEventBeside (loaded : List TicketParts) (before : Serving) (request : RequestParts) (replies : List ReplyParts) (after : Serving) : Type 0 where
   pub event : IsEvent before request replies after
   pub agreed : AgreeAfter loaded request replies after

@@ -82,8 +82,8 @@ pub record IsShownFault (coming : Coming) (place : ℕ) (cause : Cause) : Type 0
   pub first : IsFirstFault coming.text place cause
   pub whatever : coming.ending ≡ Faulty → (more : List ℕ) → IsFirstFault (coming.text ++ more) place cause
 
--- Which plans were published for each answer of loading: all of the file, in order; none; where memory ran out, the first, but
--- not all; or, where a line could not be written, the first.
+-- Which plans were published for each answer of loading: all of the file, in order; none; where memory ran out, the first,
+-- but not all; or, where a line could not be written, the first.
 abbrev pub Publishes : Option Coming → Option Coming → List Plan → Result (Unit {0}) Fault → Type 0
 Publishes old new plans (Ok _) = IsFileOf old new plans
 Publishes old new plans (Err OutOfMemory) = (plans ≡ []) ⊎ ((more : List Plan) × (more ≢ []) × IsFileOf old new (plans ++ more))

@@ -1,8 +1,8 @@
 //! How often literals end in a text.
 ghost use Rattle.std.specs.Prelude.{◌≡◌};
 
-/// At how many positions of some bytes of a text literals end, and after how many of these a new search began. A search for
-/// single ends begins anew after each, a scan after none.
+/// At how many positions of some bytes of a text literals end, and after how many of these a new search began. A search
+/// for single ends begins anew after each, a scan after none.
 #[derive(Clone, Copy, Debug)]
 pub struct EndRate {
     /// Positions at which a literal ends.

@@ -116,8 +116,8 @@ fn allowed_for(cost: usize) -> usize {
     cost.saturating_add(cost / 2).saturating_add(TUNED_SLACK)
 }
 
-/// The estimates of the tuned engines, in tenths of a nanosecond for 1,024 bytes; `usize::MAX` for an engine that was not
-/// prepared.
+/// The estimates of the tuned engines, in tenths of a nanosecond for 1,024 bytes; `usize::MAX` for an engine that was
+/// not prepared.
 #[derive(Clone, Copy, Debug)]
 pub(crate) struct Estimates {
     pub factors: usize,
@@ -255,8 +255,8 @@ impl Strategy {
         };
     }
 
-    /// Changes to the engine with the lowest estimate, unless the prefilter is in use and this is not clearly better. The
-    /// measurement begins anew.
+    /// Changes to the engine with the lowest estimate, unless the prefilter is in use and this is not clearly better.
+    /// The measurement begins anew.
     pub fn choose(&mut self, estimates: Estimates) {
         let (engine, cost) = estimates.best();
         let allowed = allowed_for(cost);
