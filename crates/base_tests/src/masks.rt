@@ -1,7 +1,7 @@
 //! The tables of worked lists, their filter numbers, and the law of candidates.
 use list_index::ListIndex;
 use lit_base::{Ends, Fault, Fold, LitList, Profile, RawList, is_cut};
-use nib_mask::{ByteMasks, Masks, candidate_law, filter_number};
+use nib_mask::{ByteMasks, Masks, candidate_law, plain_byte};
 use std::alloc::Global;
 use std::test::Fail;
 
@@ -62,9 +62,9 @@ fn marks_the_halves_of_one_literal(rt: HostRuntime) -> Result<(), Fail> {
         high: [ALL, only(&[6]), only(&[6])],
     };
     assert_eq!(rt; found, Some(wanted));
-    assert_eq!(rt; filter_number(&wanted, b'x', b'a', b'b'), 1);
-    assert_eq!(rt; filter_number(&wanted, b'x', b'a', b'c'), 0);
-    assert_eq!(rt; filter_number(&wanted, b'x', b'A', b'b'), 0);
+    assert_eq!(rt; plain_byte(&wanted, b'x', b'a', b'b'), 1);
+    assert_eq!(rt; plain_byte(&wanted, b'x', b'a', b'c'), 0);
+    assert_eq!(rt; plain_byte(&wanted, b'x', b'A', b'b'), 0);
     Ok(())
 }
 
@@ -76,9 +76,9 @@ fn marks_both_cases_under_folding(rt: HostRuntime) -> Result<(), Fail> {
         high: [ALL, only(&[4, 6]), only(&[4, 6])],
     };
     assert_eq!(rt; found, Some(wanted));
-    assert_eq!(rt; filter_number(&wanted, b'x', b'a', b'b'), 1);
-    assert_eq!(rt; filter_number(&wanted, b'x', b'a', b'c'), 0);
-    assert_eq!(rt; filter_number(&wanted, b'x', b'A', b'b'), 1);
+    assert_eq!(rt; plain_byte(&wanted, b'x', b'a', b'b'), 1);
+    assert_eq!(rt; plain_byte(&wanted, b'x', b'a', b'c'), 0);
+    assert_eq!(rt; plain_byte(&wanted, b'x', b'A', b'b'), 1);
     Ok(())
 }
 
@@ -93,8 +93,8 @@ fn marks_the_halves_of_two_literals(rt: HostRuntime) -> Result<(), Fail> {
     };
     assert_eq!(rt; found, Some(wanted));
     // Halves of two literals pass together, though no literal ends so.
-    assert_eq!(rt; filter_number(&wanted, b'f', b'g', b'y'), 1);
-    assert_eq!(rt; filter_number(&wanted, b'F', b'g', b'y'), 0);
+    assert_eq!(rt; plain_byte(&wanted, b'f', b'g', b'y'), 1);
+    assert_eq!(rt; plain_byte(&wanted, b'F', b'g', b'y'), 0);
 
     let found = masks_of(rt.alloc(), Fold::Ascii, words, &[2])?;
     let wanted = Masks {
@@ -102,8 +102,8 @@ fn marks_the_halves_of_two_literals(rt: HostRuntime) -> Result<(), Fail> {
         high: [only(&[4, 6]), only(&[4, 5, 6, 7]), only(&[4, 5, 6, 7])],
     };
     assert_eq!(rt; found, Some(wanted));
-    assert_eq!(rt; filter_number(&wanted, b'f', b'g', b'y'), 1);
-    assert_eq!(rt; filter_number(&wanted, b'F', b'G', b'Y'), 1);
+    assert_eq!(rt; plain_byte(&wanted, b'f', b'g', b'y'), 1);
+    assert_eq!(rt; plain_byte(&wanted, b'F', b'G', b'Y'), 1);
     Ok(())
 }
 
@@ -115,14 +115,14 @@ fn leaves_out_what_a_short_literal_does_not_reach(rt: HostRuntime) -> Result<(),
         high: [ALL, ALL, only(&[6])],
     };
     assert_eq!(rt; found, Some(together));
-    assert_eq!(rt; filter_number(&together, b'x', b'x', b'b'), 1);
-    assert_eq!(rt; filter_number(&together, b'x', b'a', b'x'), 0);
+    assert_eq!(rt; plain_byte(&together, b'x', b'x', b'b'), 1);
+    assert_eq!(rt; plain_byte(&together, b'x', b'a', b'x'), 0);
 
     let apart = masks_of(rt.alloc(), Fold::No, "b ab", &[1, 2])?;
     let apart = apart.ok_or("the ends are a cut")?;
-    assert_eq!(rt; filter_number(&apart, b'x', b'x', b'b'), 1);
-    assert_eq!(rt; filter_number(&apart, b'x', b'a', b'b'), 3);
-    assert_eq!(rt; filter_number(&apart, b'b', b'a', b'x'), 0);
+    assert_eq!(rt; plain_byte(&apart, b'x', b'x', b'b'), 1);
+    assert_eq!(rt; plain_byte(&apart, b'x', b'a', b'b'), 3);
+    assert_eq!(rt; plain_byte(&apart, b'b', b'a', b'x'), 0);
     assert_eq!(rt; apart.low[0], [3; 16]);
     Ok(())
 }
@@ -142,7 +142,7 @@ fn holds_where_a_literal_ends(rt: HostRuntime) -> Result<(), Fail> {
     candidate_law(list, &ends, text, place as u16, 4, *b"..");
     // The first run has a shorter literal; the second has `she`.
     let masks = Masks::of(list, &ends);
-    assert_eq!(rt; filter_number(&masks, b's', b'h', b'e'), 3);
+    assert_eq!(rt; plain_byte(&masks, b's', b'h', b'e'), 3);
     Ok(())
 }
 
@@ -156,7 +156,7 @@ fn gives_the_ninth_bucket_a_bit_of_its_own(rt: HostRuntime) -> Result<(), Fail> 
     )?;
     let found = found.ok_or("the ends are a cut")?;
     assert_eq!(rt; (found.low[2][9], found.high[2][6]), (0x100, 0x1FF));
-    assert_eq!(rt; filter_number(&found, b'x', b'x', b'i'), 0x100);
+    assert_eq!(rt; plain_byte(&found, b'x', b'x', b'i'), 0x100);
     assert_eq!(rt; found.first_eight().filter_byte(b'x', b'x', b'i'), 0);
     assert_eq!(rt; found.last_eight().filter_byte(b'x', b'x', b'i'), 1);
     assert_eq!(rt; found.first_eight().filter_byte(b'x', b'x', b'h'), 0x80);

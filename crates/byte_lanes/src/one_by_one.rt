@@ -4,7 +4,7 @@ ghost use Rattle.nib_mask.specs.Candidates.{IsCandidate};
 ghost use Rattle.nib_mask.specs.Halves.{widened};
 ghost use Rattle.byte_lanes.specs.Filtered.{IsFilteredBelow};
 
-use nib_mask::{ByteMasks, Masks, filter_number};
+use nib_mask::{ByteMasks, Masks, plain_byte};
 
 /// Whether an occurrence may end at a position of the text.
 pub(crate) fn is_candidate(masks: &ByteMasks, text: &[u8], end: usize) -> bool
@@ -44,6 +44,6 @@ pub(crate) fn filter_rest(
     ensures { IsFilteredBelow masks.now x0.now x1.now x2.now (length x0.now) out.new }
 {
     for place in from..out.len() {
-        out[place] = filter_number(masks, x0[place], x1[place], x2[place]);
+        out[place] = plain_byte(masks, x0[place], x1[place], x2[place]);
     }
 }

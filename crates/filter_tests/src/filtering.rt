@@ -3,7 +3,7 @@ ghost use Rattle.std.specs.Prelude.{◌<◌, ◌≤◌, length};
 
 use lane_filter::{Candidates, Prefilter, any_set, filter};
 use lit_base::{Ends, Fault, Fold, LitList, Profile, RawList, is_cut};
-use nib_mask::{Masks, filter_number};
+use nib_mask::{Masks, plain_byte};
 use std::alloc::{AllocError, Global};
 use std::test::Fail;
 
@@ -107,7 +107,7 @@ impl PlainTest {
         let last = before(text, end, 1);
         match self {
             PlainTest::Filter(masks) => {
-                filter_number(masks, before(text, end, 3), before(text, end, 2), last) != 0
+                plain_byte(masks, before(text, end, 3), before(text, end, 2), last) != 0
             }
             PlainTest::LastOf(bytes) => is_one_of(last, *bytes),
             PlainTest::WordOf(word) => {
@@ -205,7 +205,7 @@ fn kernel_agrees(masks: &Masks, bytes: &[u8], offset: usize, len: usize) -> bool
     let mut found = [7; 200];
     filter(masks, x0, x1, x2, &mut found[..len]);
     x0.iter().zip(x1).zip(x2).zip(found.iter()).all(|(((a, b), c), number)| *number
-        == filter_number(masks, *a, *b, *c))
+        == plain_byte(masks, *a, *b, *c))
 }
 
 /// Whether a cursor gives the candidates after a place, in order, and then none.

@@ -107,7 +107,7 @@ fn kept_halves(list: &LitList, start: usize, end: usize, position: usize, half: 
 
 /// The filter number of three bytes: bit b is set if all six entries have it.
 #[tactic(auto, unfolding(crate::specs::Tables::table_value))]
-pub fn filter_number(masks: &Masks, a: u8, b: u8, c: u8) -> u16
+pub fn plain_byte(masks: &Masks, a: u8, b: u8, c: u8) -> u16
     ensures { result ≡ table_value masks.now a b c }
 {
     byte_at(masks, 0, a) & byte_at(masks, 1, b) & byte_at(masks, 2, c)

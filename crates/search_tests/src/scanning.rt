@@ -9,7 +9,7 @@ use flow_scan::{Compiled, Fault, Hit, Scanner, least_law, pieces_law, scan_all, 
 use list_index::ListIndex;
 use lit_base::{Fold, LitList, MAX_LITERAL_LEN, Profile, RawList};
 use lit_cert::{Certificate, Reason};
-use nib_mask::{Masks, filter_number};
+use nib_mask::{Masks, plain_byte};
 use run_planner::plan;
 use std::alloc::Global;
 use std::sync::Arc;
@@ -171,7 +171,7 @@ fn cost_and_mark(alloc: Global, literals: &[&[u8]], bytes: [u8; 3]) -> Option<(u
     let certificate = compiled.certificate();
     let masks = Masks::of(compiled.list(), &certificate.ends);
     let [x0, x1, x2] = bytes;
-    Some((certificate.cost, filter_number(&masks, x0, x1, x2)))
+    Some((certificate.cost, plain_byte(&masks, x0, x1, x2)))
 }
 
 #[test]
