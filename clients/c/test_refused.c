@@ -71,6 +71,36 @@ static int is_refused(int32_t status, const char *call)
         left = -1;                                                                                                     \
     } while (0)
 
+/* A feed in which nothing ends takes no memory, whatever the stream holds: all but the last byte of the longest literal
+   there may be. */
+static void feeds_without_memory(void)
+{
+    static uint8_t text[4095];
+    const fiolargu_bytes longest = {text, sizeof text};
+    fiolargu_plan plan = {NULL};
+    fiolargu_stream stream = {NULL};
+    fiolargu_hit hits[2];
+    size_t fed, count, fault_at;
+    memset(text, 'a', sizeof text);
+    fiolargu_plan_new(&plan, &longest, 1, 0, NULL, 0, &fault_at);
+    fiolargu_stream_open(&plan, &stream, 0);
+    left = 0;
+    int32_t status = fiolargu_stream_feed(&stream, text, sizeof text - 1, &fed, hits, 2, &count);
+    left = -1;
+    if (status != FIOLARGU_OK || refused || fed != sizeof text - 1 || count != 0) {
+        printf("without memory: status %d, refused: %d, fed %zu, %zu hits\n", (int)status, refused, fed, count);
+        faults++;
+    }
+    refused = 0;
+    status = fiolargu_stream_feed(&stream, text, 1, &fed, hits, 2, &count);
+    if (status != FIOLARGU_OK || fed != 1 || count != 1 || hits[0].literal != 0 || hits[0].end != sizeof text) {
+        printf("the last byte of the longest literal: status %d, fed %zu, %zu hits\n", (int)status, fed, count);
+        faults++;
+    }
+    fiolargu_stream_close(&stream);
+    fiolargu_plan_free(&plan);
+}
+
 int main(void)
 {
     static uint8_t text[4096], file[4096];
@@ -105,6 +135,7 @@ int main(void)
     fiolargu_plan_free(&third);
     fiolargu_stream_close(&stream);
     fiolargu_stream_close(&twin);
+    feeds_without_memory();
     if (held != 0) {
         printf("%ld blocks were not freed\n", held);
         faults++;
