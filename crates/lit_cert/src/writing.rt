@@ -1,10 +1,10 @@
 //! Certificates written to a device.
-ghost use Rattle.std.specs.Prelude.{◌≡◌, ◌≢◌, ◌+◌, ◌<◌, ◌++◌, ◌∷◌, map, codes, string_bytes, IsTrue, IfOk, IfErr, OnOk, OnErr};
+ghost use Rattle.std.specs.Prelude.{◌≡◌, ◌≢◌, ◌+◌, ◌^◌, ◌<◌, ◌++◌, ◌∷◌, All, map, codes, string_bytes, IsTrue, IfOk, IfErr, OnOk, OnErr};
 ghost use Rattle.std.specs.Fmt.{decimal};
 ghost use Rattle.std.specs.Io.KnownBytes.{Appends};
 ghost use Rattle.byte_io.specs.Transfers.{AppendsPart};
 ghost use Rattle.lit_cert.specs.Faults.{IsWritersFault};
-ghost use Rattle.lit_cert.specs.Spelling.{IsShaped, ends_words, line_text, row_words, spelling, version_of};
+ghost use Rattle.lit_cert.specs.Spelling.{HasText, IsShaped, ends_words, line_text, row_words, spelling, version_of};
 ghost use Rattle.lit_base.specs.Profiles.{buckets};
 
 use crate::certificate::Certificate;
@@ -70,7 +70,14 @@ fn text_of(alloc: Global, certificate: &Certificate) -> Result<String, AllocErro
     Ok(text)
 }
 
-/// Writes the text of a certificate.
+/// Ends and potentials fit the fields of a text.
+fn numbers_law(ends: &[u16], potentials: &[u64])
+    ensures ends { All (λ e. e < 2 ^ 16) ends.now }
+    ensures potentials { All (λ h. h < 2 ^ 64) potentials.now }
+{
+}
+
+/// Writes the text of a certificate. `read_cert` reads it as the same certificate, unless memory runs out.
 ///
 /// # Errors
 /// - `WriteFault`, where a write failed or took nothing.
@@ -87,6 +94,8 @@ pub fn write_cert<W: ByteOut>(
         (Appends (W.written out.old) (W.written out.new) (spelling certificate.now)) }
     ensures err { OnErr result
         (AppendsPart (W.written out.old) (W.written out.new) (spelling certificate.now)) }
+    // `read_cert` reads the bytes that are written.
+    ensures text { HasText certificate.now }
     ensures same { result ≡ Err Fault.OutOfMemory → out.new ≡ out.old }
 
     // `WriteFault` is returned only if a write failed.
@@ -94,6 +103,7 @@ pub fn write_cert<W: ByteOut>(
     ensures flag { result ≢ Err Fault.WriteFault → W.has_failed out.new ≡ W.has_failed out.old }
     ensures faults { IfErr result IsWritersFault }
 {
+    numbers_law(certificate.ends.as_slice(), &certificate.potentials);
     let text = text_of(alloc, certificate)?;
     match write_all(out, text.as_bytes()) {
         Ok(()) => Ok(()),
