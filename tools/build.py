@@ -1,15 +1,18 @@
 #!/usr/bin/env python3
-"""Proves and builds programs, with the crates that they stand on: tools/build.py --cpu LEVEL [-j N] [--into DIR] PROGRAM..
+"""Proves and builds programs, with the crates that they stand on.
+
+Usage: tools/build.py --cpu LEVEL [-j N] [--into DIR] PROGRAM..
 
 A static library of crates.txt is built like a program.
 
 Each rt command locks its crate and every crate below it until it ends. All crates stand on byte_io, so in one tree only
-one crate is proved at a time. Here each is proved in a copy of it and of the crates below, which has locks of its own;
-what was made is then moved back. N processors (all by default) prove crates side by side. The crates at the bottom of a
-long chain decide how long that takes: they share all processors, and the others share what is idle. None gets more than its
-share, since a proof on several processors reads the crates below once for each. A crate is proved again where a file of it
-changed, or a crate below was proved again. A library keeps its statements alone, so that the crates above do not read its
-proofs again. One proof of a program serves every processor level: for another level it is only compiled and linked.
+one crate is proved at a time. Here each is proved in a copy of it and of the crates below, which has locks of its
+own; what was made is then moved back. N processors (all by default) prove crates side by side. The crates at the bottom
+of a long chain decide how long that takes: they share all processors, and the others share what is idle. None gets more
+than its share, since a proof on several processors reads the crates below once for each. A crate is proved again where
+a file of it changed, or a crate below was proved again. A library keeps its statements alone, so that the crates above
+do not read its proofs again. One proof of a program serves every processor level: for another level it is only compiled
+and linked.
 
 Prints a line for each crate that was proved, with an estimate for the rest. --verbose shows the prover's output too.
 """

@@ -2,7 +2,8 @@
 mod sixteen;
 
 use arrayvec::ArrayVec;
-use lit_base::{CutIn, CutOut, Profile};
+use byte_io::{CutIn, CutOut};
+use lit_base::Profile;
 use lit_cert::{Certificate, Fault, read_cert, write_cert};
 use std::alloc::{AllocError, Global};
 use std::test::Fail;

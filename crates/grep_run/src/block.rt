@@ -6,9 +6,9 @@ ghost use Rattle.grep_run.specs.Writers.{Writes, WritesPrefix, is_write_fault, w
 use crate::message::write_whole;
 use crate::options::GrepOptions;
 use crate::status::Stop;
+use byte_io::ByteOut;
 use itoa::Buffer;
 use line_pick::{Fault, Next, Sink};
-use lit_base::ByteOut;
 use std::alloc::{AllocError, Global};
 
 /// The block of one input after another, as its selected lines come. It holds the text that is not written yet.

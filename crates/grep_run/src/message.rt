@@ -4,7 +4,8 @@ ghost use Rattle.grep_run.specs.Messages.{out_of_memory, patterns_refused, unrea
 ghost use Rattle.grep_run.specs.Writers.{Writes, WritesPrefix, is_write_fault, writer};
 
 use crate::status::Stop;
-use lit_base::{ByteOut, Fault, write_all};
+use byte_io::{ByteOut, write_all};
+use lit_base::Fault;
 use std::alloc::{AllocError, Global};
 
 /// Says that a file cannot be opened or read. After an error some of the message may be written,

@@ -14,8 +14,8 @@ use crate::patterns::{NoPatterns, gathered};
 use crate::request::{Found, Request};
 use crate::searcher::search_all;
 use crate::status::{Status, Stop};
-use byte_io::Opener;
-use lit_base::{ByteOut, Fault};
+use byte_io::{ByteOut, Opener};
+use lit_base::Fault;
 use std::alloc::Global;
 
 /// Runs grep: its output goes to `out`, its messages to `err`.

@@ -12,9 +12,9 @@ use crate::block::Block;
 use crate::options::GrepOptions;
 use crate::request::{End, Request};
 use crate::status::Stop;
+use byte_io::{ByteIn, ByteOut, Failed, MAX_TURNS};
 use flow_scan::{EndFinder, LEAST_SAMPLE};
 use line_pick::{Fault, LineRule, Next, Picker};
-use lit_base::{ByteIn, ByteOut, Failed, MAX_TURNS};
 use std::alloc::{AllocError, Global};
 
 /// A finder that tunes itself to the inputs of a request, if the request has enough literals to gain by it.

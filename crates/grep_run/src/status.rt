@@ -3,7 +3,7 @@ ghost use Rattle.std.specs.Prelude.{◌≡◌};
 ghost use Rattle.grep_run.specs.Statuses.{code_of};
 ghost use Rattle.grep_run.specs.declared.status.Stop.TheVariants.{OutOfMemory, WriteFault};
 
-use lit_base::Failed;
+use byte_io::Failed;
 use std::alloc::{AllocError, AllocFailed};
 
 /// How a run of grep ends. POSIX.1-2017 `grep`, EXIT STATUS.

@@ -9,7 +9,7 @@ ghost use Rattle.lit_cert.specs.Reading.{IsFirstBad};
 use crate::certificate::Certificate;
 use crate::fault::Fault;
 use crate::parsing::certificate_of;
-use lit_base::{ByteIn, ReadError, read_to_end};
+use byte_io::{ByteIn, ReadError, read_to_end};
 use std::alloc::Global;
 
 /// No certificate's text has more bytes: the longest, for 4,096 literals, has fewer than 1,380,000.

@@ -9,7 +9,8 @@ ghost use Rattle.lit_base.specs.Profiles.{buckets};
 
 use crate::certificate::Certificate;
 use crate::fault::Fault;
-use lit_base::{ByteOut, Ends, Failed, Profile, buckets, write_all};
+use byte_io::{ByteOut, Failed, write_all};
+use lit_base::{Ends, Profile, buckets};
 use std::alloc::{AllocError, Global};
 use std::fmt::Write;
 

@@ -17,8 +17,9 @@ use crate::fault::Fault;
 use crate::flags::flags_of;
 use crate::limits::MAGIC;
 use crate::version::Version;
+use byte_io::{ByteOut, Failed, write_all};
 use flow_scan::Compiled;
-use lit_base::{ByteOut, Failed, LitList, Profile, write_all};
+use lit_base::{LitList, Profile};
 use lit_cert::Certificate;
 use std::alloc::{AllocError, Global};
 

@@ -10,8 +10,8 @@ ghost use Rattle.plan_file.specs.Spelling.{IsFile};
 use crate::decoding::decode;
 use crate::fault::Fault;
 use crate::limits::MAX_FILE_LEN;
+use byte_io::{ByteIn, ReadError, read_to_end};
 use flow_scan::Compiled;
-use lit_base::{ByteIn, ReadError, read_to_end};
 use std::alloc::Global;
 
 /// Reads a plan file of version 1 or 2 to its end.

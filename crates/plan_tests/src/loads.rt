@@ -1,6 +1,6 @@
 //! Plans that a file publishes: the store in which they are found then, which no clause says.
 use crate::plan_files::ONE;
-use lit_base::{CutIn, CutOut};
+use byte_io::{CutIn, CutOut};
 use plan_store::PlanStore;
 use scan_run::load_plans;
 use std::alloc::Global;

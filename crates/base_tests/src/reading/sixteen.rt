@@ -1,7 +1,8 @@
 //! The text of a certificate of sixteen buckets.
 use super::{bad_line, with_line};
 use arrayvec::ArrayVec;
-use lit_base::{CutIn, CutOut, Profile};
+use byte_io::{CutIn, CutOut};
+use lit_base::Profile;
 use lit_cert::{Certificate, Fault, read_cert, write_cert};
 use std::alloc::Global;
 use std::test::Fail;
