@@ -1,10 +1,10 @@
 //! From hits to the lines printed of them.
-ghost use Rattle.std.specs.Prelude.{◌≡◌, ◌++◌, ◌∷◌, [], OnOk, decimal};
+ghost use Rattle.std.specs.Prelude.{◌≡◌, ◌++◌, OnOk};
 ghost use Rattle.example_scan.specs.Lines.{hit_line, hit_lines, line_text};
 
 use anyhow::{Result, bail};
+use byte_io::push_number;
 use flow_scan::{Compiled, Hit};
-use itoa::Buffer;
 use std::alloc::AllocError;
 
 /// Appends the lines of hits that a scan by the plan found. `lines` has a pattern's line for each literal.
@@ -38,14 +38,4 @@ fn push_line(start: u64, literal: &[u8], line: u64, text: &mut Vec<u8>) -> Resul
     text.extend_from_slice(literal)?;
     text.push(b' ')?;
     push_number(line, b'\n', text)
-}
-
-/// Appends a number, and the byte that ends it.
-fn push_number(number: u64, end: u8, text: &mut Vec<u8>) -> Result<(), AllocError>
-    ensures { OnOk result (text.new.items ≡ text.old.items ++ (decimal number ++ end ∷ [])) }
-{
-    let mut digits = Buffer::new();
-    text.extend_from_slice(digits.format(number).as_bytes())?;
-    text.push(end)?;
-    Ok(())
 }

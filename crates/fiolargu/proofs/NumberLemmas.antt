@@ -2,10 +2,10 @@
 use Rattle.std.proofs.Common.{◌≡◌, ℕ, List, length, map, take, Option, ap, ◌∙◌, subst}
 use Rattle.std.specs.List.{AllZip}
 use Rattle.std.proofs.lemmas.Slice.Zip.{AllZip-long}
+use Rattle.lit_base.specs.Flags.{fold_of}
 use Rattle.lit_base.specs.Literals.{Literals}
 use Rattle.lit_base.specs.NormalForm.{IsPlaceOf, normal_form}
 use Rattle.lit_plan.specs.Plans.{Plan}
-use Rattle.plan_file.specs.Reading.{fold_of}
 use Rattle.fiolargu.specs.Made.{AreNumbersOf, IsPlanOf, number_at}
 
 -- places among the literals of a plan, written as numbers, are the numbers of its patterns

@@ -1,14 +1,13 @@
 -- What a C program passes to make a plan, and the plan that it gets.
 use Rattle.std.specs.Prelude.{◌≡◌, ℕ, ◌-◌, List, map, length, slice_index, Option, Some, None}
+use Rattle.lit_base.specs.Flags.{flags_of, fold_of, profile_of}
 use Rattle.lit_base.specs.Assignments.{NoAssignmentBelow}
 use Rattle.lit_base.specs.NormalForm.{IsPlaceOf, normal_form}
 use Rattle.std.specs.List.{AllZip}
 use Rattle.lit_base.specs.Profiles.{buckets}
 use Rattle.lit_plan.specs.Plans.{Plan}
 use Rattle.list_plan.specs.Planned.{IsPlanned}
-use Rattle.plan_file.specs.Reading.{fold_of, profile_of}
 use Rattle.lit_base.specs.Literals.{lengths}
-use Rattle.plan_file.specs.Spelling.{flags_of}
 use Rattle.fiolargu.specs.declared.views.Bytes.{Bytes}
 use Rattle.fiolargu.specs.declared.views.PlanInfo.{PlanInfo}
 

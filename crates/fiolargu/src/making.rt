@@ -1,12 +1,12 @@
 //! From patterns to a plan in a handle.
-ghost use Rattle.std.specs.Prelude.{◌≡◌, ◌≤◌, ◌<◌, ◌⊎◌, ℕ, [], IfErr, IfOk, IsSomeAnd, None, Some, drop, length, map, take};
+ghost use Rattle.std.specs.Prelude.{◌≡◌, ◌≤◌, ◌<◌, ◌⊎◌, [], IfErr, IfOk, None, Some, drop, length, map, take};
 ghost use Rattle.std.specs.Arc.{arc_value};
 ghost use Rattle.std.specs.List.{AllZip};
+ghost use Rattle.lit_base.specs.Flags.{fold_of};
 ghost use Rattle.lit_base.specs.NormalForm.{IsPlaceOf, normal_form};
 ghost use Rattle.lit_base.specs.Lines.{lines};
 ghost use Rattle.lit_base.specs.RawLists.{first_refusal, text_refusal};
 ghost use Rattle.lit_base.specs.declared.fault.Fault.TheVariants.{OutOfMemory, TooManyLiterals};
-ghost use Rattle.plan_file.specs.Reading.{fold_of, profile_of};
 ghost use Rattle.fiolargu.specs.Found.{plan_of};
 ghost use Rattle.fiolargu.specs.Made.{IsPlanOf, bytes_of, number_at};
 ghost use Rattle.fiolargu.specs.declared.statuses.TheConstants.{NO_LITERALS, NULL_HANDLE, OK, OUT_OF_MEMORY};
@@ -22,28 +22,6 @@ use std::sync::Arc;
 
 /// All flags: ASCII case is ignored, and sixteen buckets.
 pub(crate) const ALL_FLAGS: u32 = 3;
-
-/// The fold in the flags: bit 0.
-fn fold_of(flags: u32) -> Fold
-    ensures { result ≡ fold_of flags }
-{
-    if flags % 2 == 0 {
-        Fold::No
-    } else {
-        Fold::Ascii
-    }
-}
-
-/// The profile in the flags: bit 1.
-fn profile_of(flags: u32) -> Profile
-    ensures { result ≡ profile_of flags }
-{
-    if flags < 2 {
-        Profile::Eight
-    } else {
-        Profile::Sixteen
-    }
-}
 
 /// The patterns of the caller, in order.
 pub(crate) fn patterns_of(alloc: Global, patterns: &[Bytes]) -> Result<RawList, Fault>
@@ -77,7 +55,7 @@ pub(crate) fn lines_of(alloc: Global, text: &[u8]) -> Result<RawList, Fault>
 pub(crate) fn plan_of(
     alloc: Global,
     raw: &RawList,
-    flags: u32,
+    flags: u8,
 ) -> Result<(Compiled, Vec<Option<u16>>), i32>
     ensures made { IfOk result (λ made. IsPlanOf flags raw.now made.0) }
     ensures places { IfOk result (λ made. AllZip (IsPlaceOf (fold_of flags) made.0.literals.texts) raw.now made.1.items) }

@@ -1,6 +1,7 @@
 //! Exports that make, share, show and free plans.
-ghost use Rattle.std.specs.Prelude.{◌≡◌, ◌-◌, ◌≤◌, ◌<◌, ◌⊎◌, ◌↔◌, ℕ, [], IsSomeAnd, IfSome, None, Some, drop, length, take};
+ghost use Rattle.std.specs.Prelude.{◌≡◌, ◌-◌, ◌≤◌, ◌<◌, ◌⊎◌, ◌↔◌, [], IsSomeAnd, IfSome, None, Some, drop, length, take};
 ghost use Rattle.std.specs.List.{slice_get};
+ghost use Rattle.lit_base.specs.Flags.{fold_of};
 ghost use Rattle.lit_base.specs.Lines.{lines};
 ghost use Rattle.lit_base.specs.NormalForm.{normal_form};
 ghost use Rattle.lit_base.specs.RawLists.{first_refusal, text_refusal};
@@ -8,8 +9,6 @@ ghost use Rattle.lit_base.specs.declared.fault.Fault.TheVariants.{ListTooLarge, 
 ghost use Rattle.fiolargu.specs.Found.{plan_of};
 ghost use Rattle.fiolargu.specs.Answers.{IsListStatus};
 ghost use Rattle.fiolargu.specs.Made.{AreNumbersOf, IsInfoOf, IsPlanOf, bytes_of};
-ghost use Rattle.plan_file.specs.Reading.{fold_of};
-ghost use Rattle.plan_file.specs.Spelling.{flags_of};
 ghost use Rattle.fiolargu.specs.declared.statuses.TheConstants.{LIST_TOO_LARGE, LITERAL_TOO_LONG, NO_LITERALS, NULL_HANDLE, OK, OUT_OF_MEMORY, OUT_OF_RANGE, SMALL_BUFFER, TOO_MANY_PATTERNS};
 
 use crate::making::{
@@ -19,7 +18,7 @@ use crate::statuses::{NULL_HANDLE, OK, OUT_OF_MEMORY, OUT_OF_RANGE, SMALL_BUFFER
 use crate::views::{Bytes, PlanInfo};
 use c_handle::PlanHandle;
 use flow_scan::Compiled;
-use lit_base::{Fold, Profile};
+use lit_base::flags_of;
 use std::alloc::Global;
 
 /// Makes a plan of patterns. `literal_of` gets the number of each pattern's literal, if it has any room.
@@ -72,7 +71,7 @@ pub extern "C" fn fiolargu_plan_new(
             return status;
         }
     };
-    match plan_of(alloc, &raw, flags) {
+    match plan_of(alloc, &raw, flags as u8) {
         Ok((made, places)) => {
             write_numbers(&places, literal_of);
             set_plan(plan, alloc, made)
@@ -118,7 +117,7 @@ pub extern "C" fn fiolargu_plan_of_lines(
             return status;
         }
     };
-    match plan_of(alloc, &raw, flags) {
+    match plan_of(alloc, &raw, flags as u8) {
         Ok((made, _)) => set_plan(plan, alloc, made),
         Err(status) => status,
     }
@@ -162,20 +161,8 @@ fn info_of(plan: &Compiled) -> PlanInfo
         literals: list.len() as u64,
         longest: list.longest() as u64,
         cost: certificate.cost,
-        flags: flags_of(list.fold(), certificate.profile),
+        flags: u32::from(flags_of(list.fold(), certificate.profile)),
         groups: certificate.ends.len() as u32,
-    }
-}
-
-/// The flags of a fold and a profile.
-fn flags_of(fold: Fold, profile: Profile) -> u32
-    ensures { result ≡ flags_of fold profile }
-{
-    match (fold, profile) {
-        (Fold::No, Profile::Eight) => 0,
-        (Fold::Ascii, Profile::Eight) => 1,
-        (Fold::No, Profile::Sixteen) => 2,
-        (Fold::Ascii, Profile::Sixteen) => 3,
     }
 }
 

@@ -1,13 +1,12 @@
 //! The block of one input: the text for its selected lines.
-ghost use Rattle.std.specs.Prelude.{◌≡◌, ◌++◌, ◌∷◌, ◌||◌, [], OnErr, OnOk, codes, decimal};
+ghost use Rattle.std.specs.Prelude.{◌≡◌, ◌++◌, ◌||◌, [], OnErr, OnOk, codes, decimal};
 ghost use Rattle.grep_run.specs.Blocks.{prefix_of, written_line};
 ghost use Rattle.grep_run.specs.Writers.{Writes, WritesPrefix, is_write_fault, writer};
 
 use crate::message::write_whole;
 use crate::options::GrepOptions;
 use crate::status::Stop;
-use byte_io::ByteOut;
-use itoa::Buffer;
+use byte_io::{ByteOut, push_number};
 use line_pick::{Fault, Next, Sink};
 use std::alloc::{AllocError, Global};
 
@@ -163,15 +162,5 @@ fn push_prefix(options: &GrepOptions, name: &str, text: &mut Vec<u8>) -> Result<
         text.extend_from_slice(name.as_bytes())?;
         text.push(b':')?;
     }
-    Ok(())
-}
-
-/// Appends a number, and the byte that ends it.
-fn push_number(number: u64, end: u8, text: &mut Vec<u8>) -> Result<(), AllocError>
-    ensures { OnOk result (text.new.items ≡ text.old.items ++ (decimal number ++ end ∷ [])) }
-{
-    let mut digits = Buffer::new();
-    text.extend_from_slice(digits.format(number).as_bytes())?;
-    text.push(end)?;
     Ok(())
 }

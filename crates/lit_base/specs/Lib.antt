@@ -2,6 +2,7 @@ pub mod Assignments
 pub mod Costs
 pub mod Cuts
 pub mod Faults
+pub mod Flags
 pub mod Folding
 pub mod Limits
 pub mod Lines

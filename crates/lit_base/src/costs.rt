@@ -53,7 +53,7 @@ pub fn cost(count: usize, shortest: usize) -> u64
 
 /// The cost of the literals from place `start` up to but not including `end`, as one run. They stand by length, so the
 /// first is the shortest.
-fn run_cost(list: &LitList, start: usize, end: usize) -> u64
+pub fn run_cost(list: &LitList, start: usize, end: usize) -> u64
     requires some { start < end }
     requires within { end ≤ length list.now.texts }
     ensures value { result ≡ run_cost (lengths list.now) start end }

@@ -3,6 +3,7 @@
 
 mod costs;
 mod fault;
+mod flags;
 mod fold;
 mod laws;
 mod limits;
@@ -19,8 +20,9 @@ pub use byte_io::{
     ByteIn, ByteOut, CutIn, CutOut, Failed, FileOrInput, FromRead, MAX_TURNS, ReadError, ToWrite,
     read_to_end, write_all,
 };
-pub use costs::{Ends, assign_cost, cost, cut_cost, is_assignment, is_cut, weight};
+pub use costs::{Ends, assign_cost, cost, cut_cost, is_assignment, is_cut, run_cost, weight};
 pub use fault::Fault;
+pub use flags::{flags_of, fold_and_profile, fold_of, profile_of};
 pub use fold::{Fold, fold_byte};
 pub use laws::{assignment_law, cut_law, limits_law, potentials_law, run_cost_law};
 pub use limits::{

@@ -57,12 +57,12 @@ impl ByteMasks {
     pub fn filter_byte(&self, a: u8, b: u8, c: u8) -> u8
         ensures { result ≡ table_value (widened self.now) a b c }
     {
-        self.byte_at(0, a) & self.byte_at(1, b) & self.byte_at(2, c)
+        self.value_at(0, a) & self.value_at(1, b) & self.value_at(2, c)
     }
 
     /// The bits that both tables of a position have for a byte.
     #[tactic(auto, unfolding(crate::specs::Tables::value_at))]
-    fn byte_at(&self, position: usize, byte: u8) -> u8
+    fn value_at(&self, position: usize, byte: u8) -> u8
         requires { position < 3 }
         ensures { result ≡ value_at (widened self.now) position byte }
     {

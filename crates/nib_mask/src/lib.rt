@@ -13,5 +13,5 @@ mod prefixes;
 
 pub use byte_masks::ByteMasks;
 pub use candidates::candidate_law;
-pub use masks::{Masks, plain_byte};
+pub use masks::{Masks, plain_byte, value_at};
 pub use prefixes::prefix_at;

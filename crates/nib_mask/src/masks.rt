@@ -110,12 +110,12 @@ fn kept_halves(list: &LitList, start: usize, end: usize, position: usize, half: 
 pub fn plain_byte(masks: &Masks, a: u8, b: u8, c: u8) -> u16
     ensures { result ≡ table_value masks.now a b c }
 {
-    byte_at(masks, 0, a) & byte_at(masks, 1, b) & byte_at(masks, 2, c)
+    value_at(masks, 0, a) & value_at(masks, 1, b) & value_at(masks, 2, c)
 }
 
-/// The bits that both tables of a position have for a byte.
+/// The bits that both tables of a position have for a byte. Position 0 is the third-last byte, 2 the last.
 #[tactic(auto, unfolding(crate::specs::Tables::value_at))]
-fn byte_at(masks: &Masks, position: usize, byte: u8) -> u16
+pub fn value_at(masks: &Masks, position: usize, byte: u8) -> u16
     requires { position < 3 }
     ensures { result ≡ value_at masks.now position byte }
 {

@@ -5,6 +5,7 @@ use Rattle.std.specs.Int.{w16, to_be_bytes}
 use Rattle.std.proofs.lemmas.List.{append-nil, length-append, take_at, take-append-drop}
 use Rattle.std.proofs.lemmas.List.Concat.{flat_map-append}
 use Rattle.std.proofs.lemmas.List.Elements.{All-from_recursion, recursion_from_All}
+use Rattle.lit_base.specs.Flags.{flags_of}
 use Rattle.lit_base.specs.declared.fold.Fold.{Fold}
 use Rattle.lit_base.specs.declared.fold.Fold.TheVariants.{No}
 use Rattle.lit_base.specs.declared.limits.TheConstants.{MAX_LITERAL_LEN}
@@ -20,7 +21,7 @@ use Rattle.plan_file.specs.declared.version.Version.{Version}
 use Rattle.plan_file.specs.FirstBad.{Field, FitsCertificate, FitsHead, FitsList, FitsLiteral, FitsStart, IsFirstBad, Start, certificate_fields, head_fields, literal_fields, start_fields, text_of}
 use Rattle.plan_file.specs.FirstFaults.{IsFirstFault, IsWrong, IsWrongEntry, IsWrongInCertificate, IsWrongInLiterals, IsWrongLiteral, IsWrongNext}
 use Rattle.plan_file.specs.Reading.{folded_len}
-use Rattle.plan_file.specs.Spelling.{BeginsDraft, CanExpress, IsDraft, flags_of, IsPlan, certificate_text, head_text, limit_of, literal_text, literals_text, plan_text, spelling}
+use Rattle.plan_file.specs.Spelling.{BeginsDraft, CanExpress, IsDraft, IsPlan, certificate_text, head_text, limit_of, literal_text, literals_text, plan_text, spelling}
 use Rattle.plan_file.proofs.EntryParts.{certificate_fields_text, fits_certificate, fits_list}
 use Rattle.plan_file.proofs.OneWay.{head_fields_text}
 use Rattle.plan_file.proofs.PartLemmas.{text_of-append}

@@ -6,6 +6,7 @@ use Rattle.std.specs.Int.{w16, to_be_bytes}
 use Rattle.std.proofs.lemmas.Bool.{cases_lt, lt-ltb, le-ltb}
 use Rattle.std.proofs.lemmas.List.{append-nil, length-append, length-drop}
 use Rattle.std.proofs.lemmas.List.Sums.{sum_by-cons}
+use Rattle.lit_base.specs.Flags.{flags_of, fold_of, profile_of}
 use Rattle.lit_base.specs.declared.fold.Fold.{Fold}
 use Rattle.lit_base.specs.declared.limits.TheConstants.{MAX_LITERAL_LEN, MAX_LIST_LEN}
 use Rattle.lit_base.specs.declared.profile.Profile.{Profile}
@@ -16,8 +17,8 @@ use Rattle.plan_file.specs.declared.fault.Wrong.{Wrong}
 use Rattle.plan_file.specs.declared.version.Version.{Version}
 use Rattle.plan_file.specs.FirstBad.{FitsList, FitsLiteral, FitsStart, IsFirstBad, Start, literal_fields, start_fields, text_of}
 use Rattle.plan_file.specs.FirstFaults.{IsWrongList, IsWrongLiteral, last_of}
-use Rattle.plan_file.specs.Reading.{◌>>=◌, wrong_at, byte_at, number_at, field, folded_len, fold_of, last_flags, list_at, literal_at, literals_at, profile_of}
-use Rattle.plan_file.specs.Spelling.{flags_of, limit_of, literal_text, literals_text}
+use Rattle.plan_file.specs.Reading.{◌>>=◌, wrong_at, byte_at, number_at, field, folded_len, last_flags, list_at, literal_at, literals_at}
+use Rattle.plan_file.specs.Spelling.{limit_of, literal_text, literals_text}
 use Rattle.plan_file.proofs.FieldLemmas.{AreBytes, Took, byte_read, field_read, none_stopped, number_read, rest_bytes, same_number, stop, took_both}
 use Rattle.plan_file.proofs.LiteralLemmas.{Follow, IsNext, folded_len_whole, follow_normal, literal_next, literal_read, normal_from}
 use Rattle.plan_file.proofs.PartLemmas.{Whole, bad_within, heads_same, longer_bad, none_bad, one_bad, same_back, same_prefix, shift, tails_same}

@@ -8,6 +8,7 @@ use Rattle.std.proofs.lemmas.Bool.{eqb-true, ltb-true, ltb-false, lt-ltb, le-ltb
 use Rattle.std.proofs.lemmas.List.{append-nil, drop-append-le, length-append}
 use Rattle.std.proofs.lemmas.List.Elements.{All-from_recursion}
 use mir.Val.{bits}
+use Rattle.lit_base.specs.Flags.{flags_of, fold_of, profile_of}
 use Rattle.lit_base.specs.declared.fold.Fold.{Fold}
 use Rattle.lit_base.specs.declared.fold.Fold.TheVariants.{No}
 use Rattle.lit_base.specs.declared.profile.Profile.{Profile}
@@ -22,8 +23,8 @@ use Rattle.plan_file.specs.declared.version.Version.{Version}
 use Rattle.plan_file.specs.declared.version.Version.TheVariants.{One, Two}
 use Rattle.plan_file.specs.FirstBad.{Field, FitsCertificate, FitsHead, FitsLiteral, FitsStart, IsFirstBad, Start, byte_field, certificate_fields, head_fields, literal_fields, number_field, start_fields, text_of}
 use Rattle.plan_file.specs.FirstFaults.{IsFull, IsWrongLiteral}
-use Rattle.plan_file.specs.Reading.{◌>>=◌, wrong_at, byte_at, bytes_at, number_at, field, folded_len, literal_at, numbers_at, certificate_at, fold_of, last_flags, profile_of, version_of, head_at}
-use Rattle.plan_file.specs.Spelling.{CanExpress, flags_of, limit_of, literal_text, numbers_text, version_number}
+use Rattle.plan_file.specs.Reading.{◌>>=◌, wrong_at, byte_at, bytes_at, number_at, field, folded_len, literal_at, numbers_at, certificate_at, last_flags, version_of, head_at}
+use Rattle.plan_file.specs.Spelling.{CanExpress, limit_of, literal_text, numbers_text, version_number}
 use Rattle.plan_file.proofs.FieldLemmas.{AreBytes, IsFieldWidth, NumbersStop, Took, byte_read, byte_stop, bytes_read, bytes_stop, failed, field_read, field_stop, none_stopped, number_len, number_read, number_rest, number_stop, numbers_read, numbers_stop, rest_bytes, same_number, stop, took_both}
 use Rattle.plan_file.proofs.LiteralLemmas.{folded_whole, in_range, in_range_from, in_range_bounds}
 use Rattle.plan_file.proofs.PartLemmas.{SameShape, Steady, heads_same, other_bad, same_prefix, short_bad, steady_by_first, tails_same, text_of-append}

@@ -6,6 +6,7 @@ use Rattle.std.proofs.lemmas.Bool.Decides.{nat_tests}
 use Rattle.std.proofs.lemmas.Bool.{eqb-true}
 use Rattle.std.proofs.lemmas.List.Elements.{All-from_recursion, recursion_from_All}
 use Rattle.std.proofs.lemmas.Result.{IfOk-at_ok}
+use Rattle.lit_base.specs.Flags.{flags_of, fold_of, profile_of}
 use Rattle.lit_base.specs.declared.fold.Fold.{Fold}
 use Rattle.lit_base.specs.declared.fold.Fold.TheVariants.{No, Ascii}
 use Rattle.lit_base.specs.declared.limits.TheConstants.{MAX_LIST_LEN}
@@ -19,8 +20,8 @@ use Rattle.plan_file.specs.declared.fault.Cause.TheVariants.{Magic, Version as w
 use Rattle.plan_file.specs.declared.fault.Wrong.{Wrong}
 use Rattle.plan_file.specs.declared.version.Version.{Version}
 use Rattle.plan_file.specs.declared.version.Version.TheVariants.{One, Two}
-use Rattle.plan_file.specs.Reading.{◌>>=◌, byte_at, number_at, field, numbers_at, literals_at, last_flags, fold_of, profile_of, list_at, certificate_at, plan_at, version_of, head_at}
-use Rattle.plan_file.specs.Spelling.{CanExpress, flags_of, limit_of, numbers_text, literal_text, literals_text, certificate_text, plan_text, head_text, version_number, HasFields}
+use Rattle.plan_file.specs.Reading.{◌>>=◌, byte_at, number_at, field, numbers_at, literals_at, last_flags, list_at, certificate_at, plan_at, version_of, head_at}
+use Rattle.plan_file.specs.Spelling.{CanExpress, limit_of, numbers_text, literal_text, literals_text, certificate_text, plan_text, head_text, version_number, HasFields}
 use Rattle.plan_file.proofs.FieldLemmas.{AreBytes, Took, took_both, rest_bytes, step, field_read, field_again, byte_read, number_read, number_again, numbers_read, numbers_again}
 use Rattle.plan_file.proofs.LiteralLemmas.{literals_read, literals_follow, literals_again, normal_from, follow_normal}
 

@@ -3,6 +3,7 @@
 use Rattle.std.specs.Prelude.{ℕ, ◌*◌, ◌^◌, ◌<◌, ◌≤◌, ◌≡◌, ◌≢◌, List, [], ◌∷◌, ◌++◌, length, map, All, nat_lt, if◌then◌else◌}
 use Rattle.std.specs.List.{flat_map}
 use Rattle.std.specs.Int.{Width, w16, w32, w64, to_be_bytes}
+use Rattle.lit_base.specs.Flags.{flags_of}
 use Rattle.lit_base.specs.declared.fold.Fold.{Fold}
 use Rattle.lit_base.specs.declared.profile.Profile.{Profile}
 use Rattle.lit_base.specs.declared.limits.TheConstants.{MAX_LITERAL_LEN}
@@ -14,7 +15,7 @@ use Rattle.plan_file.specs.declared.fault.Cause.TheVariants.{Short, Magic, Versi
 use Rattle.plan_file.specs.declared.fault.Wrong.{Wrong}
 use Rattle.plan_file.specs.declared.version.Version.{Version}
 use Rattle.plan_file.specs.Reading.{wrong_at}
-use Rattle.plan_file.specs.Spelling.{CanExpress, flags_of, limit_of, version_number}
+use Rattle.plan_file.specs.Spelling.{CanExpress, limit_of, version_number}
 
 -- a field: its bytes, and the cause where others stand in its place
 pub record Field : Type 0 where

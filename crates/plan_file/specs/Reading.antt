@@ -1,12 +1,11 @@
 -- Inside the crate: what each function that reads a part of a plan file gives, field by field.
-use Rattle.std.specs.Prelude.{ℕ, zero, suc, ◌*◌, ◌-◌, ◌%◌, List, [], ◌∷◌, length, take, drop, Bool, ◌&&◌, ◌==◌, not, nat_le, nat_lt, if◌then◌else◌, Result, Ok, Err}
+use Rattle.std.specs.Prelude.{ℕ, zero, suc, ◌*◌, ◌-◌, List, [], ◌∷◌, length, take, drop, Bool, ◌&&◌, ◌==◌, not, nat_le, nat_lt, if◌then◌else◌, Result, Ok, Err}
 use Rattle.std.specs.Int.{Width, w16, w32, w64, byte_len, from_be_bytes}
 use Rattle.std.specs.List.{position_or_len}
 use Rattle.std.specs.Ordering.{is_lt}
+use Rattle.lit_base.specs.Flags.{fold_of, profile_of}
 use Rattle.lit_base.specs.declared.fold.Fold.{Fold}
-use Rattle.lit_base.specs.declared.fold.Fold.TheVariants.{No, Ascii}
 use Rattle.lit_base.specs.declared.profile.Profile.{Profile}
-use Rattle.lit_base.specs.declared.profile.Profile.TheVariants.{Eight, Sixteen}
 use Rattle.lit_base.specs.declared.limits.TheConstants.{MAX_LITERAL_LEN, MAX_LIST_LEN}
 use Rattle.lit_base.specs.Folding.{folded}
 use Rattle.lit_base.specs.Literals.{Literals, literal_cmp}
@@ -82,14 +81,6 @@ literals_at fold (suc n) room before bytes = do
 abbrev pub last_flags : Version → ℕ
 last_flags One = 1
 last_flags Two = 3
-
--- the fold in the flags: bit 0
-abbrev pub fold_of : ℕ → Fold
-fold_of flags = if flags % 2 == 0 then No else Ascii
-
--- the profile in the flags: bit 1
-abbrev pub profile_of : ℕ → Profile
-profile_of flags = if nat_lt flags 2 then Eight else Sixteen
 
 -- the profile and the literals of an entry, at most the version's limit
 unfoldable pub list_at : Version → List ℕ → Result ((Profile × Literals) × List ℕ) Wrong

@@ -2,11 +2,10 @@
 use Rattle.std.specs.Prelude.{⊤, ℕ, ◌*◌, ◌^◌, ◌<◌, ◌≤◌, ◌≡◌, List, ◌∷◌, ◌++◌, length, All}
 use Rattle.std.specs.List.{flat_map}
 use Rattle.std.specs.Int.{Width, w16, w32, w64, to_be_bytes}
-use Rattle.lit_base.specs.declared.fold.Fold.{Fold}
-use Rattle.lit_base.specs.declared.fold.Fold.TheVariants.{No, Ascii}
+use Rattle.lit_base.specs.Flags.{flags_of}
 use Rattle.lit_base.specs.declared.limits.TheConstants.{MAX_LITERAL_LEN}
 use Rattle.lit_base.specs.declared.profile.Profile.{Profile}
-use Rattle.lit_base.specs.declared.profile.Profile.TheVariants.{Eight, Sixteen}
+use Rattle.lit_base.specs.declared.profile.Profile.TheVariants.{Eight}
 use Rattle.lit_base.specs.Literals.{Literals, IsNormal}
 use Rattle.lit_base.specs.Profiles.{buckets}
 use Rattle.lit_cert.specs.Certificates.{CertificateParts}
@@ -33,13 +32,6 @@ CanExpress One profile = profile ≡ Eight
 CanExpress Two profile = ⊤
 
 -- ---- the fields of an entry
-
--- the flags of a fold, bit 0, and a profile, bit 1
-abbrev pub flags_of : Fold → Profile → ℕ
-flags_of No Eight = 0
-flags_of Ascii Eight = 1
-flags_of No Sixteen = 2
-flags_of Ascii Sixteen = 3
 
 -- numbers of a width, one after the other
 abbrev pub numbers_text : Width → List ℕ → List ℕ

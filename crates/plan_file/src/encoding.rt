@@ -7,19 +7,18 @@ ghost use Rattle.lit_base.specs.declared.profile.Profile.TheVariants.{Eight};
 ghost use Rattle.lit_plan.specs.Plans.{Plan};
 ghost use Rattle.plan_file.specs.Faults.{IsWritersFault};
 ghost use Rattle.std.specs.List.{flat_map};
-ghost use Rattle.std.specs.Int.{w16, w32, w64};
+ghost use Rattle.std.specs.Int.{w16, w64};
 ghost use Rattle.plan_file.specs.declared.fault.Fault.TheVariants.{OutOfMemory};
 ghost use Rattle.plan_file.specs.declared.version.Version.{Version};
 ghost use Rattle.plan_file.specs.declared.version.Version.TheVariants.{One, Two};
 ghost use Rattle.plan_file.specs.Spelling.{ArePlans, IsFileOf, IsPlan, certificate_text, head_text, literal_text, literals_text, numbers_text, plan_text, spelling};
 
 use crate::fault::Fault;
-use crate::flags::flags_of;
 use crate::limits::MAGIC;
 use crate::version::Version;
 use byte_io::{ByteOut, Failed, write_all};
 use flow_scan::Compiled;
-use lit_base::{LitList, Profile};
+use lit_base::{LitList, Profile, flags_of};
 use lit_cert::Certificate;
 use std::alloc::{AllocError, Global};
 

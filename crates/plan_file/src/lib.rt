@@ -7,7 +7,6 @@ mod decoding;
 mod encoding;
 mod fault;
 mod fields;
-mod flags;
 mod limits;
 mod literals;
 mod reading;

@@ -10,9 +10,10 @@ ghost use Rattle.plan_file.specs.Reading.{folded_len as folded_len_of, list_at, 
 
 use crate::fault::{Cause, Stop, stop_at};
 use crate::fields::{first_byte, first_bytes, first_u16};
-use crate::flags::{fold_of, profile_of};
 use crate::version::Version;
-use lit_base::{Fold, LitList, MAX_LIST_LEN, MAX_LITERAL_LEN, Profile, RawList, fold_byte};
+use lit_base::{
+    Fold, LitList, MAX_LIST_LEN, MAX_LITERAL_LEN, Profile, RawList, fold_byte, fold_of, profile_of,
+};
 use std::alloc::Global;
 
 /// How many bytes at the start are folded.

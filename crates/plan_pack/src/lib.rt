@@ -8,7 +8,6 @@
 mod fault;
 mod migrating;
 mod notation;
-mod numbers;
 mod packing;
 mod pattern_files;
 mod patterns;
@@ -19,7 +18,6 @@ mod stop;
 pub use fault::Fault;
 pub use migrating::{migrate, migrate_file};
 pub use notation::{Notation, Reading};
-pub use numbers::push_number;
 pub use packing::{Unmade, pack, pack_into, stop_of};
 pub use pattern_files::PatternFiles;
 pub use patterns::hex_law;

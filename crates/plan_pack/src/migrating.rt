@@ -9,11 +9,10 @@ ghost use Rattle.plan_pack.specs.Packing.{answer_of};
 ghost use Rattle.plan_pack.specs.Stops.{is_refusal, is_write};
 
 use crate::fault::Fault;
-use crate::numbers::push_number;
 use crate::packing::{Unmade, make};
 use crate::reading::plans_of;
 use crate::stop::Stop;
-use byte_io::Files;
+use byte_io::{Files, push_number};
 use flow_scan::Compiled;
 use lit_base::Profile;
 use run_planner::plan;

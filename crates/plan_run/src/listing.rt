@@ -6,9 +6,9 @@ ghost use Rattle.plan_run.specs.Running.{Writes, is_write_fault};
 use crate::reporting::{report, report_bytes};
 use crate::request::Scan;
 use crate::status::Status;
-use byte_io::ByteOut;
+use byte_io::{ByteOut, push_number};
 use flow_scan::{Compiled, Hit};
-use plan_pack::{Stop, push_number};
+use plan_pack::Stop;
 use plan_view::push_literal;
 use std::alloc::{AllocError, Global};
 

@@ -4,10 +4,10 @@ ghost use Rattle.lit_base.specs.Cuts.{CutsFrom, IsCut};
 ghost use Rattle.lit_base.specs.Literals.{lengths};
 ghost use Rattle.plan_view.specs.Drawings.{across, bar, bar_numbers, caption, drawn, drawn_from, even_phrase, head, height, highest_cost, legend_from, legend_line, number_at, numbers_text, plan_svg, said, title, xml_byte};
 
-use crate::rows::{percent, push_span, run_cost};
+use crate::rows::{percent, push_span};
 use crate::sums::{even_parts, push_number, single};
 use crate::view::View;
-use lit_base::{Ends, LitList, Profile};
+use lit_base::{Ends, LitList, Profile, run_cost};
 use nib_mask::Masks;
 use std::alloc::{AllocError, Global};
 

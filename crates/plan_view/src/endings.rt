@@ -7,7 +7,7 @@ ghost use Rattle.nib_mask.specs.Tables.{value_at};
 ghost use Rattle.plan_view.specs.Endings.{endings};
 ghost use Rattle.plan_view.specs.Terms.{sum_below};
 
-use nib_mask::Masks;
+use nib_mask::{Masks, value_at};
 
 /// How many of the 2^24 endings have the bucket in their filter set, by the tables that give these sets.
 pub fn endings(masks: &Masks, bucket: usize) -> u64
@@ -27,7 +27,7 @@ fn kept(masks: &Masks, position: usize, bucket: usize) -> u64
 {
     let mut count = 0;
     for byte in 0..256_u16 {
-        count += u64::from(bit_of(byte_at(masks, position, byte as u8), bucket));
+        count += u64::from(bit_of(value_at(masks, position, byte as u8), bucket));
     }
     count
 }
@@ -39,15 +39,4 @@ fn bit_of(number: u16, bucket: usize) -> u16
     ensures bound { result ≤ 1 }
 {
     number >> bucket & 1
-}
-
-/// What a byte has at a position.
-#[tactic(auto, unfolding(nib_mask::specs::Tables::value_at))]
-fn byte_at(masks: &Masks, position: usize, byte: u8) -> u16
-    requires { position < 3 }
-    ensures { result ≡ value_at masks.now position byte }
-{
-    let low = masks.low[position][usize::from(byte & 15)];
-    let high = masks.high[position][usize::from(byte >> 4)];
-    low & high
 }

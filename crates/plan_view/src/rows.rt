@@ -1,15 +1,13 @@
 //! The rows of a plan.
 ghost use Rattle.std.specs.Prelude.{◌≡◌, ◌+◌, ◌^◌, ◌<◌, ◌≤◌, ◌++◌, OnOk, length};
-ghost use Rattle.lit_base.specs.Costs.{run_cost};
 ghost use Rattle.lit_base.specs.Cuts.{CutsFrom};
-ghost use Rattle.lit_base.specs.Literals.{lengths};
 ghost use Rattle.plan_view.specs.Rows.{percent, row, row_numbers, rows_from, span};
 
 use crate::columns::push_columns;
 use crate::endings::endings;
 use crate::quotes::push_quoted;
 use crate::view::View;
-use lit_base::{LitList, cost, weight};
+use lit_base::{LitList, run_cost, weight};
 use std::alloc::AllocError;
 
 /// Appends the rows of the buckets from this one on, which begin at place `start` and have these ends.
@@ -98,15 +96,4 @@ pub fn percent(part: u64, total: u64) -> u64
     ensures { result ≡ percent part total }
 {
     part * 100 / total
-}
-
-/// What the literals from place `start` up to but not including `end` cost together.
-pub fn run_cost(list: &LitList, start: usize, end: usize) -> u64
-    requires some { start < end }
-    requires within { end ≤ length list.now.texts }
-    ensures value { result ≡ run_cost (lengths list.now) start end }
-    ensures bound { result < 2 ^ 40 }
-{
-    prove!(end <= list.len());
-    cost(end - start, list.get(start).len())
 }

@@ -6,10 +6,10 @@ ghost use Rattle.plan_view.specs.Texts.{count_line, drops, even_label, even_part
 
 use crate::columns::push_columns;
 use crate::repeats::{Repeat, nulls, repeats};
-use crate::rows::{percent, run_cost};
+use crate::rows::percent;
 use crate::view::View;
 use itoa::Buffer;
-use lit_base::{LitList, Profile, buckets};
+use lit_base::{LitList, Profile, buckets, run_cost};
 use std::alloc::{AllocError, Global};
 
 /// How many dropped patterns are listed one by one.

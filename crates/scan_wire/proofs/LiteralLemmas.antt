@@ -3,13 +3,14 @@ use Rattle.std.proofs.Common.{◌≡◌, ◌≢◌, ℕ, ◌+◌, ◌^◌, ◌<�
 use Rattle.std.specs.List.{flat_map}
 use Rattle.std.proofs.lemmas.List.{append-nil, length-append, drop_at}
 use Rattle.std.proofs.lemmas.List.Elements.{All-head, All-push, All-tail}
+use Rattle.lit_base.specs.Flags.{flags_of}
 use Rattle.lit_base.specs.declared.fold.Fold.{Fold}
 use Rattle.lit_base.specs.declared.profile.Profile.{Profile}
 use Rattle.scan_wire.specs.declared.fault.Cause.TheVariants.{Payload}
 use Rattle.scan_wire.specs.declared.fault.Fault.{Fault}
 use Rattle.scan_wire.specs.declared.fault.Fault.TheVariants.{OutOfMemory, BadFrame}
 use Rattle.scan_wire.specs.Causes.{IfBadFrame}
-use Rattle.scan_wire.specs.Frames.{flags_of, literal_text}
+use Rattle.scan_wire.specs.Frames.{literal_text}
 use Rattle.scan_wire.specs.Numbers.{u16_text}
 use Rattle.scan_wire.specs.Reading.{NoList, NoLiteral, NoLiterals}
 use Rattle.scan_wire.proofs.NumberLemmas.{length-u16_text, u16_same}

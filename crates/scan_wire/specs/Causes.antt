@@ -4,9 +4,10 @@ use Rattle.scan_wire.specs.declared.fault.Cause.{Cause}
 use Rattle.scan_wire.specs.declared.fault.Cause.TheVariants.{Length, Kind, Stream, Payload}
 use Rattle.scan_wire.specs.declared.fault.Fault.{Fault}
 use Rattle.scan_wire.specs.declared.fault.Fault.TheVariants.{OutOfMemory, BadFrame}
+use Rattle.lit_base.specs.Flags.{flags_of}
 use Rattle.lit_base.specs.declared.fold.Fold.{Fold}
 use Rattle.lit_base.specs.declared.profile.Profile.{Profile}
-use Rattle.scan_wire.specs.Frames.{FrameParts, flags_of, frame_text, IsFrame, IsRequest, request_frame, request_text}
+use Rattle.scan_wire.specs.Frames.{FrameParts, frame_text, IsFrame, IsRequest, request_frame, request_text}
 use Rattle.scan_wire.specs.Messages.{RequestParts}
 use Rattle.scan_wire.specs.Numbers.{u16_text, u32_text}
 

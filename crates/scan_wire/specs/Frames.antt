@@ -1,10 +1,9 @@
 -- Frames, and the one spelling of each request and each reply.
 use Rattle.std.specs.Prelude.{ℕ, ◌+◌, ◌^◌, ◌<◌, ◌≤◌, List, [], ◌∷◌, ◌++◌, length, All, ⊤}
 use Rattle.std.specs.List.{flat_map}
+use Rattle.lit_base.specs.Flags.{flags_of}
 use Rattle.lit_base.specs.declared.fold.Fold.{Fold}
-use Rattle.lit_base.specs.declared.fold.Fold.TheVariants.{No, Ascii}
 use Rattle.lit_base.specs.declared.profile.Profile.{Profile}
-use Rattle.lit_base.specs.declared.profile.Profile.TheVariants.{Eight, Sixteen}
 use Rattle.scan_wire.specs.Messages.{RequestParts, Publish, Open, Feed, Close, ShowPlan, ReplyParts, Published, Opened, Hits, Fed, Closed, Plan, Refused}
 use Rattle.scan_wire.specs.Numbers.{u16_text, u32_text, u64_text}
 
@@ -23,13 +22,6 @@ pub record IsFrame (f : FrameParts) : Type 0 where
   pub kind : f.kind < 2 ^ 8
   pub stream : f.stream < 2 ^ 32
   pub payload : length f.payload ≤ 65536
-
--- the byte with a fold in bit 0, and a profile in bit 1
-abbrev pub flags_of : Fold → Profile → ℕ
-flags_of No Eight = 0
-flags_of Ascii Eight = 1
-flags_of No Sixteen = 2
-flags_of Ascii Sixteen = 3
 
 -- a literal: its length in two bytes, and its bytes
 abbrev pub literal_text : List ℕ → List ℕ

@@ -2,7 +2,7 @@
 ghost use Rattle.std.specs.Prelude.{◌≡◌, ◌+◌, [], ◌∷◌, ◌++◌, ◌≤◌, length, IfOk, IsOkUnless, OnErr, OnOk};
 ghost use Rattle.std.specs.List.{flat_map};
 ghost use Rattle.scan_wire.specs.declared.fault.Fault.TheVariants.{OutOfMemory};
-ghost use Rattle.scan_wire.specs.Frames.{FitsReply, IsBlock, flags_of, frame_text, hit_text, reply_text};
+ghost use Rattle.scan_wire.specs.Frames.{FitsReply, IsBlock, frame_text, hit_text, reply_text};
 ghost use Rattle.scan_wire.specs.Growth.{Extends};
 ghost use Rattle.scan_wire.specs.Messages.{Hits, Plan, Refused, reply_parts};
 ghost use Rattle.scan_wire.specs.Numbers.{u16_text, u32_text, u64_text};
@@ -14,7 +14,7 @@ use crate::kinds::{
 use crate::message::Reply;
 use crate::numbers::{push_u16, push_u32, push_u64};
 use flow_scan::Hit;
-use lit_base::{Ends, Fold, Profile};
+use lit_base::{Ends, Fold, Profile, flags_of};
 use std::alloc::{AllocError, Global};
 
 /// Appends the head of a frame, before a payload of `len` bytes.
@@ -101,23 +101,11 @@ fn push_plan(
 {
     let ends_count = ends.len() as u8;
     push_head(out, PLAN_KIND, stream, 12 + 2 * u32::from(ends_count))?;
-    out.push(flags(fold, profile))?;
+    out.push(flags_of(fold, profile))?;
     push_u16(out, count)?;
     push_u64(out, cost)?;
     out.push(ends_count)?;
     push_ends(out, ends)
-}
-
-/// The byte of flags for a fold and a profile.
-fn flags(fold: Fold, profile: Profile) -> u8
-    ensures { result ≡ flags_of fold profile }
-{
-    match (fold, profile) {
-        (Fold::No, Profile::Eight) => 0,
-        (Fold::Ascii, Profile::Eight) => 1,
-        (Fold::No, Profile::Sixteen) => 2,
-        (Fold::Ascii, Profile::Sixteen) => 3,
-    }
 }
 
 /// Appends a Refused reply.

@@ -2,17 +2,16 @@
 ghost use Rattle.std.specs.Prelude.{◌≡◌, ◌≢◌, ℕ, ◌^◌, ◌<◌, ◌∷◌, ◌++◌, length, IfErr, IfNone, IfOk, IfSome};
 ghost use Rattle.scan_wire.specs.declared.fault.Cause.TheVariants.{Payload};
 ghost use Rattle.scan_wire.specs.declared.fault.Fault.TheVariants.{OutOfMemory};
-ghost use Rattle.lit_base.specs.declared.fold.Fold.{Fold};
-ghost use Rattle.lit_base.specs.declared.profile.Profile.{Profile};
+ghost use Rattle.lit_base.specs.Flags.{flags_of};
 ghost use Rattle.scan_wire.specs.Causes.{AnnouncesLiterals, IfBadFrame};
-ghost use Rattle.scan_wire.specs.Frames.{AreLiterals, flags_of, list_text, literal_text};
+ghost use Rattle.scan_wire.specs.Frames.{AreLiterals, list_text, literal_text};
 ghost use Rattle.scan_wire.specs.Messages.{texts_of};
 ghost use Rattle.scan_wire.specs.Numbers.{u16_text, u64_text};
 ghost use Rattle.scan_wire.specs.Reading.{AreRead, NoList, NoLiteral, NoLiterals};
 
 use crate::fault::{Cause, Fault};
 use crate::numbers::{first_u16, first_u64};
-use lit_base::{Fold, Profile};
+use lit_base::{Fold, Profile, fold_and_profile};
 use std::alloc::Global;
 
 /// The refusal of a payload.
@@ -54,20 +53,6 @@ fn literals_of(alloc: Global, count: u16, bytes: &[u8]) -> Result<Vec<Vec<u8>>, 
         Ok(literals)
     } else {
         Err(BAD_PAYLOAD)
-    }
-}
-
-/// The fold and the profile in a byte of flags.
-fn fold_and_profile(flags: u8) -> Option<(Fold, Profile)>
-    ensures found { IfSome result (λ x. flags_of x.0 x.1 ≡ flags) }
-    ensures none { IfNone result ((fold : Fold) (profile : Profile) → flags_of fold profile ≢ flags) }
-{
-    match flags {
-        0 => Some((Fold::No, Profile::Eight)),
-        1 => Some((Fold::Ascii, Profile::Eight)),
-        2 => Some((Fold::No, Profile::Sixteen)),
-        3 => Some((Fold::Ascii, Profile::Sixteen)),
-        _ => None,
     }
 }
 

@@ -3,8 +3,8 @@ use Rattle.std.proofs.Common.{◌≡◌, ◌≤◌, ◌∙◌, ℕ, List, ap, ar
 use Rattle.std.proofs.lemmas.Slice.Zip.{AllZip-long}
 use Rattle.std.specs.List.{AllZip}
 use Rattle.std.proofs.lemmas.List.{length-map}
+use Rattle.lit_base.specs.Flags.{fold_of}
 use Rattle.lit_base.specs.NormalForm.{IsPlaceOf}
-use Rattle.plan_file.specs.Reading.{fold_of}
 use Rattle.fiolargu.specs.Made.{IsPlanOf, bytes_of, number_at}
 use Rattle.fiolargu.specs.declared.views.Bytes.{Bytes}
 use Rattle.fiolargu.proofs.NumberLemmas.{numbered}

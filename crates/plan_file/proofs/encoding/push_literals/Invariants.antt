@@ -1,7 +1,8 @@
 use Rattle.std.proofs.Common.{◌≡◌, ◌∷◌, ◌++◌, length, take}
 use Rattle.std.specs.Int.{w16, to_be_bytes}
 use Rattle.std.specs.List.{flat_map}
-use Rattle.plan_file.specs.Spelling.{flags_of, literal_text}
+use Rattle.lit_base.specs.Flags.{flags_of}
+use Rattle.plan_file.specs.Spelling.{literal_text}
 use Rattle.plan_file.proofs.encoding.push_literals.Given as goal
 
 abbrev pub invariant-loop-place : goal.invariant-loop-place
