@@ -37,7 +37,7 @@ impl<R: Abort + AllocGlobal> Opener for NoFiles<'_, R> {
     type Input = CutIn<'static>;
 
     ghost use Rattle.std.specs.Prelude.{[], Some, map, string_bytes};
-    ghost use Rattle.byte_io.specs.Sources.{Ask, Created, Named, Standard};
+    ghost use Rattle.byte_io.specs.Sources.{Created, Named, Standard};
     ghost use Rattle.base_tests.specs.declared.keeping_asks.Asked.TheVariants.{File, Input, Made};
 
     ghost sources = { λ d. Some (record {

@@ -1,6 +1,6 @@
 //! Plans of worked lists, and how many prices they ask for.
 
-ghost use Rattle.std.specs.Prelude.{◌≡◌, ◌+◌, ◌<◌, ◌≤◌, length};
+ghost use Rattle.std.specs.Prelude.{◌+◌, ◌<◌};
 
 use lit_base::{Fold, LitList, Profile, RawList};
 use lit_cert::{Certificate, check};

@@ -1,6 +1,4 @@
 //! The test of ends that passes what both of two tests pass.
-ghost use Rattle.std.specs.Prelude.{◌≡◌};
-
 use crate::byte_turns::Turn;
 use crate::end_test::EndTest;
 use crate::lanes::both;

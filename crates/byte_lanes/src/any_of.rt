@@ -1,6 +1,4 @@
 //! The test of ends that passes what either of two tests passes.
-ghost use Rattle.std.specs.Prelude.{◌≡◌};
-
 use crate::byte_turns::Turn;
 use crate::end_test::EndTest;
 

@@ -1,5 +1,5 @@
 //! The factors by which literals are searched for.
-ghost use Rattle.std.specs.Prelude.{◌≡◌, ℕ, ◌+◌, ◌^◌, ◌<◌, ◌≤◌, IfOk, length, slice_index, vec_len};
+ghost use Rattle.std.specs.Prelude.{◌≡◌, ℕ, ◌^◌, ◌<◌, ◌≤◌, IfOk, length, slice_index, vec_len};
 ghost use Rattle.std.specs.Int.{bit_at};
 ghost use Rattle.list_index.specs.HashBits.{HasBit};
 ghost use Rattle.list_index.specs.Suffixes.{hash_of, masked_key, suffix_key};

@@ -1,5 +1,5 @@
 //! Exports that search streams.
-ghost use Rattle.std.specs.Prelude.{◌≡◌, ◌+◌, ◌-◌, ◌^◌, ◌++◌, ◌≤◌, ◌<◌, ◌⊎◌, ◌↔◌, ℕ, [], IfSome, None, Some, drop, length, map, take};
+ghost use Rattle.std.specs.Prelude.{◌≡◌, ◌+◌, ◌-◌, ◌^◌, ◌++◌, ◌≤◌, ◌<◌, ◌⊎◌, ◌↔◌, [], IfSome, None, Some, drop, length, map, take};
 ghost use Rattle.lit_base.specs.NextEnds.{NoEndAfter};
 ghost use Rattle.flow_scan.specs.Scanners.{fed as fed_by, started};
 ghost use Rattle.flow_scan.specs.Tails.{StopsIn};

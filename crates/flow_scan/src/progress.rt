@@ -1,5 +1,5 @@
 //! The state of a scan of a stream, without its plan.
-ghost use Rattle.std.specs.Prelude.{◌≡◌, ◌+◌, ◌-◌, ◌^◌, ◌<◌, ◌≤◌, ◌++◌, [], IfOk, IsOk, OnErr, length, min};
+ghost use Rattle.std.specs.Prelude.{◌≡◌, ◌+◌, ◌-◌, ◌^◌, ◌<◌, ◌++◌, IfOk, IsOk, OnErr, length, min};
 ghost use Rattle.lit_base.specs.NextEnds.{NoEndAfter};
 ghost use Rattle.flow_scan.specs.Scanners.{FeedsUpTo, Reached, scanning, started_at};
 ghost use Rattle.flow_scan.specs.Boundaries.{AreOffered};

@@ -1,5 +1,5 @@
 //! Patterns made ready for search: a plan of their literals, and whether one of them is null.
-ghost use Rattle.std.specs.Prelude.{◌≡◌, ◌≢◌, All, IfErr, IfOk, IfSome};
+ghost use Rattle.std.specs.Prelude.{◌≡◌, All, IfErr, IfOk, IfSome};
 ghost use Rattle.lit_base.specs.Lines.{IsOnePiece};
 ghost use Rattle.line_pick.specs.Matching.{AreInLines, StandsFor, literals_of};
 

@@ -1,5 +1,5 @@
 //! What grep calls its input.
-ghost use Rattle.std.specs.Prelude.{◌≡◌, codes};
+ghost use Rattle.std.specs.Prelude.{◌≡◌};
 ghost use Rattle.byte_io.specs.Sources.{ask_of};
 ghost use Rattle.grep_run.specs.Sources.{name_of};
 

@@ -1,5 +1,5 @@
 //! A run of grep.
-ghost use Rattle.std.specs.Prelude.{◌≡◌, ◌≢◌, ◌||◌, ◌&&◌, [], IfOk, OnErr, OnOk, if◌then◌else◌};
+ghost use Rattle.std.specs.Prelude.{◌≡◌, ◌≢◌, ◌||◌, ◌&&◌, [], IfOk, OnErr, OnOk};
 ghost use Rattle.byte_io.specs.Sources.{AreShort};
 ghost use Rattle.byte_io.specs.Devices.{IfKnown};
 ghost use Rattle.grep_run.specs.Gathering.{Refuses};

@@ -70,7 +70,7 @@ impl<'a, R: Abort + AllocGlobal> Opener for KeptFiles<'a, R> {
     type Input = CutIn<'a>;
 
     ghost use Rattle.std.specs.Prelude.{[], Some, map, string_bytes};
-    ghost use Rattle.byte_io.specs.Sources.{Ask, Named, Standard};
+    ghost use Rattle.byte_io.specs.Sources.{Named, Standard};
     ghost use Rattle.grep_tests.specs.declared.kept_files.Asked.TheVariants.{File, Input};
 
     ghost sources = { λ d. Some (record {

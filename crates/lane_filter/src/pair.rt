@@ -1,5 +1,5 @@
 //! Two bytes of a literal that are rare in usual text: where not both stand, it does not end.
-ghost use Rattle.std.specs.Prelude.{◌≡◌, ◌≢◌, ℕ, ◌+◌, ◌-◌, ◌^◌, ◌<◌, ◌≤◌, IfSome, List, length, slice_index, slice_index_or};
+ghost use Rattle.std.specs.Prelude.{◌≡◌, ◌≢◌, ℕ, ◌+◌, ◌-◌, ◌^◌, ◌<◌, ◌≤◌, IfSome, List, length, slice_index};
 ghost use Rattle.lane_filter.specs.Pairs.{AreUnlike, IsPairEnd, IsPairOf};
 ghost use Rattle.lit_base.specs.Occurrences.{Occurs};
 

@@ -2,10 +2,8 @@
 ghost use Rattle.std.specs.Prelude.{◌≡◌, ℕ, List, length};
 ghost use Rattle.lit_base.specs.Cuts.{IsCut};
 ghost use Rattle.lit_base.specs.Literals.{Literals};
-ghost use Rattle.nib_mask.specs.Candidates.{Covers, CoversBy, GivesFilterSets};
-ghost use Rattle.lane_filter.specs.RareBytes.{IsEndOfByte};
-ghost use Rattle.lane_filter.specs.Triples.{IsTripleEnd};
-ghost use Rattle.lane_filter.specs.Prefilters.{AreThreePairs, AreTwoPairs, IsEndOfThree, IsEndOfTwo, IsOneTriple, IsOnlyByte, IsPrefilterOf, Passes};
+ghost use Rattle.nib_mask.specs.Candidates.{CoversBy, GivesFilterSets};
+ghost use Rattle.lane_filter.specs.Prefilters.{AreThreePairs, AreTwoPairs, IsOneTriple, IsOnlyByte, IsPrefilterOf, Passes};
 
 use crate::exact::Exact;
 use crate::pair::{BytePair, pair_of};

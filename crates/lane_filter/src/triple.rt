@@ -1,5 +1,5 @@
 //! Three bytes of a literal that are rare in usual text: where not all of them stand, it does not end.
-ghost use Rattle.std.specs.Prelude.{◌≡◌, ℕ, ◌+◌, ◌-◌, ◌^◌, ◌<◌, ◌≤◌, List, length};
+ghost use Rattle.std.specs.Prelude.{ℕ, ◌+◌, ◌-◌, ◌^◌, ◌<◌, ◌≤◌, List, length};
 ghost use Rattle.lane_filter.specs.Pairs.{IsOneOf};
 ghost use Rattle.lane_filter.specs.Triples.{IsTripleEnd, IsTripleOf};
 ghost use Rattle.lit_base.specs.Occurrences.{Occurs};

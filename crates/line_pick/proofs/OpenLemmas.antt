@@ -1,13 +1,11 @@
 -- What decides an open line.
-use Rattle.std.proofs.Common.{◌≡◌, ◌≢◌, ℕ, ◌+◌, ◌-◌, ◌<◌, ◌≤◌, Bool, true, false, not, cond, eqb, min, List, [], ◌∷◌, ◌++◌, length, take, drop, map, slice_range, All, MatchOption, Option, None, Some, inl, inr, refl, sym, ap, ◌∙◌, subst, append_assoc, append-nil, take-append-drop, arith}
+use Rattle.std.proofs.Common.{◌≡◌, ◌≢◌, ℕ, ◌+◌, ◌-◌, ◌<◌, ◌≤◌, Bool, true, false, not, cond, eqb, min, List, [], ◌∷◌, ◌++◌, length, take, drop, slice_range, All, MatchOption, Option, None, Some, inl, inr, refl, sym, ap, ◌∙◌, subst, append_assoc, append-nil, take-append-drop, arith}
 use Rattle.std.specs.Cmp.{both_ways}
 use Rattle.std.specs.Option.{is_some, option_copied}
 use Rattle.std.proofs.lemmas.Bool.{cases_lt, eqb-false, eqb-true}
-use Rattle.std.proofs.lemmas.List.{get_or-map, length-append, length-drop, length-map, length-take, take_all}
+use Rattle.std.proofs.lemmas.List.{length-append, length-drop, length-map, length-take, take_all}
 use Rattle.std.proofs.lemmas.List.Elements.{All-append, All-cons, All-nil}
 use Rattle.std.proofs.lemmas.Option.{get_or_from_slice_get, slice_get_within}
-use Rattle.lit_base.specs.declared.fold.Fold.{Fold}
-use Rattle.lit_base.specs.Folding.{folded}
 use Rattle.lit_base.specs.Lines.{IsOnePiece, ended_lines, last_line, open_rest}
 use Rattle.lit_base.specs.Literals.{Literals, IsNormal, lengths}
 use Rattle.lit_base.specs.Occurrences.{HasEnd, IsFirstEnding, NoneEnds, Occurs}

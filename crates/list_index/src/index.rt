@@ -1,5 +1,5 @@
 //! Lists of literals, with tables for a search.
-ghost use Rattle.std.specs.Prelude.{◌≡◌, ℕ, ◌+◌, ◌-◌, ◌<◌, ◌≤◌, ◌↔◌, List, [], All, IfOk, IfSome, IsTrue, MatchOption, length, slice_index, slice_index_or};
+ghost use Rattle.std.specs.Prelude.{◌≡◌, ℕ, ◌-◌, ◌<◌, ◌≤◌, ◌↔◌, List, [], All, IfOk, IfSome, IsTrue, MatchOption, length, slice_index, slice_index_or};
 ghost use Rattle.std.specs.List.Sorted.{IsNonDecreasing};
 ghost use Rattle.lit_base.specs.Literals.{lengths, IsNormal};
 ghost use Rattle.lit_base.specs.NextEnds.{NoEndUpTo};

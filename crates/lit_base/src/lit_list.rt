@@ -1,5 +1,5 @@
 //! Lists of literals in normal form.
-ghost use Rattle.std.specs.Prelude.{◌≡◌, ℕ, ◌+◌, ◌<◌, ◌≤◌, ◌-◌, ◌↔◌, ◌⊎◌, [], All, Contains, IfErr, IfOk, IfSome, IsTrue, MatchOption, length, slice_index_or, slice_index};
+ghost use Rattle.std.specs.Prelude.{◌≡◌, ◌<◌, ◌≤◌, ◌-◌, ◌↔◌, [], All, Contains, IfErr, IfOk, IsTrue, length, slice_index_or, slice_index};
 ghost use Rattle.std.specs.List.{AllZip};
 ghost use Rattle.std.specs.List.Sorted.{IsNonDecreasing};
 ghost use Rattle.lit_base.specs.Literals.{lengths, IsNormal};

@@ -1,5 +1,5 @@
 //! Patterns as they are given, within the limits.
-ghost use Rattle.std.specs.Prelude.{◌≡◌, ◌≢◌, ℕ, ◌+◌, ◌<◌, ◌≤◌, ◌++◌, ◌∷◌, [], length, map, sum_by, take, slice_index_or, Contains, IfOk, OnOk, OnErr, MatchResult, IsTrue, ◌↔◌};
+ghost use Rattle.std.specs.Prelude.{◌≡◌, ℕ, ◌+◌, ◌<◌, ◌≤◌, ◌++◌, ◌∷◌, [], length, map, sum_by, slice_index_or, Contains, IfOk, OnOk, OnErr, MatchResult, IsTrue, ◌↔◌};
 ghost use Rattle.lit_base.specs.Faults.{RefusedBy};
 ghost use Rattle.lit_base.specs.Lines.{pieces, lines};
 ghost use Rattle.lit_base.specs.RawLists.{pattern_refusal, first_refusal, text_refusal, IsWithinLimits};

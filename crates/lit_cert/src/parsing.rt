@@ -1,11 +1,11 @@
 //! Reading a certificate from a text that is held whole.
-ghost use Rattle.std.specs.Prelude.{◌≡◌, ◌≢◌, ℕ, ◌+◌, ◌*◌, ◌^◌, ◌<◌, ◌≤◌, List, [], ◌∷◌, ◌++◌, length, map, All, codes, slice_index, IfSome, IfNone, IfOk, IfErr};
+ghost use Rattle.std.specs.Prelude.{◌≡◌, ◌≢◌, ℕ, ◌+◌, ◌*◌, ◌^◌, ◌<◌, ◌≤◌, List, ◌∷◌, ◌++◌, map, All, IfSome, IfNone, IfOk, IfErr};
 ghost use Rattle.std.specs.List.{join_with_byte};
 ghost use Rattle.std.specs.Fmt.{decimal};
-ghost use Rattle.lit_cert.specs.Spelling.{HasEnds, HasText, IsCount, line_text, literals_words, version_words, ends_words, cost_words, row_words, rows_of, spelling};
+ghost use Rattle.lit_cert.specs.Spelling.{HasEnds, HasText, IsCount, line_text, literals_words, version_words, ends_words, cost_words, row_words, spelling};
 ghost use Rattle.lit_base.specs.Profiles.{buckets};
 ghost use Rattle.lit_base.specs.declared.profile.Profile.{Profile};
-ghost use Rattle.lit_cert.specs.Reading.{NoLine, IsBadLine, AreNumbers, IsRow, HasNumbers, StartsWithHead, StartsWithRows, IsBadRow, IsBadText};
+ghost use Rattle.lit_cert.specs.Reading.{NoLine, IsBadLine, IsRow, HasNumbers, StartsWithHead, StartsWithRows, IsBadRow, IsBadText};
 
 use crate::certificate::Certificate;
 use crate::fault::Fault;

@@ -1,7 +1,7 @@
 //! The words of the command line, read with clap.
 ghost use Rattle.std.specs.Prelude.{◌≡◌, IfOk, IfSome, codes, string_bytes};
 ghost use Rattle.program_words.specs.Matches.{IsNumber};
-ghost use Rattle.litplan.specs.Requests.{IsFlag, IsFold, IsNotation, IsPlace, IsReading, IsRequestOf, is_given, profile_of, text_of};
+ghost use Rattle.litplan.specs.Requests.{IsFlag, IsFold, IsNotation, IsPlace, IsReading, IsRequestOf, profile_of, text_of};
 
 use clap::{Arg, ArgAction, ArgMatches, Command, value_parser};
 use lit_base::{Fold, Profile};

@@ -1,5 +1,5 @@
 //! The certificate of an entry.
-ghost use Rattle.std.specs.Prelude.{◌≡◌, ◌≤◌, ◌*◌};
+ghost use Rattle.std.specs.Prelude.{◌≤◌, ◌*◌};
 ghost use Rattle.std.specs.Int.{w16, w64};
 ghost use Rattle.lit_base.specs.Profiles.{buckets};
 ghost use Rattle.lit_base.specs.declared.limits.TheConstants.{MAX_LITERALS};

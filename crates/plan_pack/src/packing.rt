@@ -1,5 +1,5 @@
 //! Making a plan file.
-ghost use Rattle.std.specs.Prelude.{◌≡◌, ◌≤◌, ◌+◌, ◌||◌, ◌++◌, ◌∷◌, [], Err, IfErr, IfOk, IfSome, Option, false, length, map, string_bytes};
+ghost use Rattle.std.specs.Prelude.{◌≡◌, ◌≤◌, ◌+◌, ◌||◌, ◌++◌, ◌∷◌, [], Err, IfErr, IfOk, IfSome, false, length, map, string_bytes};
 ghost use Rattle.byte_io.specs.Devices.{IfKnown};
 ghost use Rattle.byte_io.specs.Sources.{AreShort, Created, after, can_create};
 ghost use Rattle.plan_pack.specs.Asking.{Asks, asks_for_plans, is_file, pack_asks, reads_file};

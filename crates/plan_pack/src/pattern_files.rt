@@ -1,5 +1,5 @@
 //! The files of patterns whose plans a plan file holds.
-ghost use Rattle.std.specs.Prelude.{◌≡◌, ◌≤◌, MatchOption, length};
+ghost use Rattle.std.specs.Prelude.{◌≡◌, MatchOption, length};
 ghost use Rattle.plan_pack.specs.PatternFiles.{AreFiles};
 
 use plan_file::MAX_PLANS;

@@ -1,7 +1,7 @@
 //! The patterns of a text's lines, in either notation.
 ghost use Rattle.std.specs.Prelude.{◌≡◌, ◌≢◌, ◌++◌, ◌∷◌, [], IfOk, MatchResult, None, OnOk, Some, length, map, sum_by};
 ghost use Rattle.lit_base.specs.Lines.{lines};
-ghost use Rattle.plan_pack.specs.Notations.{HexLaw, hex_bytes, hex_pattern, hex_refusal, line_refusal, list_refusal, patterns_of};
+ghost use Rattle.plan_pack.specs.Notations.{HexLaw, hex_bytes, hex_pattern, line_refusal, list_refusal, patterns_of};
 ghost use Rattle.plan_pack.specs.declared.patterns.Unlisted.TheVariants.{BadPatterns};
 
 use crate::notation::Notation;

@@ -1,9 +1,8 @@
 //! Answers that make a plan file.
-ghost use Rattle.std.specs.Prelude.{◌≡◌, ◌≤◌, ◌||◌, IfErr, List, Option, false, length, map, string_bytes, ℕ, ◌<◌};
+ghost use Rattle.std.specs.Prelude.{◌≡◌, ◌||◌, IfErr, List, Option, false, map, string_bytes, ℕ, ◌<◌};
 ghost use Rattle.byte_io.specs.Devices.{IfKnown};
 ghost use Rattle.byte_io.specs.Sources.{AreShort};
 ghost use Rattle.plan_pack.specs.Asking.{Asks, LeavesMigrate, UnlessStarved, migrate_asks, pack_asks};
-ghost use Rattle.plan_pack.specs.Migrating.{Migrates};
 ghost use Rattle.plan_pack.specs.Stops.{is_write};
 ghost use Rattle.plan_run.specs.Answers.{AnswersMigrate, AnswersPack};
 ghost use Rattle.plan_run.specs.Running.{Reports, is_write_fault};

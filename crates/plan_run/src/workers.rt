@@ -1,5 +1,5 @@
 //! How many workers share a scan.
-ghost use Rattle.std.specs.Prelude.{◌≡◌, ◌≤◌, MatchOption};
+ghost use Rattle.std.specs.Prelude.{◌≡◌, MatchOption};
 ghost use Rattle.plan_run.specs.Workers.{AreWorkers};
 
 use par_scan::MAX_WORKERS;

@@ -1,5 +1,5 @@
 //! Adding the hits of a piece to the replies.
-ghost use Rattle.std.specs.Prelude.{◌≡◌, ◌++◌, OnErr, OnOk};
+ghost use Rattle.std.specs.Prelude.{◌≡◌, OnErr, OnOk};
 ghost use Rattle.scan_core.specs.Answers.{Extends, RepliesBlocks, RepliesHits};
 
 use crate::fault::Fault;

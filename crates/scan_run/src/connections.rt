@@ -1,5 +1,5 @@
 //! How many connections a run accepts.
-ghost use Rattle.std.specs.Prelude.{◌≡◌, ◌≤◌, MatchOption};
+ghost use Rattle.std.specs.Prelude.{◌≡◌, MatchOption};
 ghost use Rattle.scan_run.specs.Limits.{AreConnections, ConnectionsLaw};
 
 /// Connections of one run, at most.

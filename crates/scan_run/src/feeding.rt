@@ -1,5 +1,5 @@
 //! Answering a Feed as its hits are found, so that they are never all held.
-ghost use Rattle.std.specs.Prelude.{◌≡◌, ◌≢◌, ◌<◌, length, IfErr, IfOk, IsTrue, None, OnErr, OnOk};
+ghost use Rattle.std.specs.Prelude.{◌≡◌, ◌≢◌, ◌<◌, length, IfOk, IsTrue, None, OnErr, OnOk};
 ghost use Rattle.scan_wire.specs.Messages.{Feed};
 ghost use Rattle.scan_wire.specs.declared.message.TheConstants.{MAX_HITS};
 ghost use Rattle.scan_serve.specs.Answering.{Answered, Stopped};

@@ -1,5 +1,5 @@
 //! What answers requests.
-ghost use Rattle.std.specs.Prelude.{◌≡◌, ◌≢◌, ℕ, List, IsTrue, OnErr, OnOk};
+ghost use Rattle.std.specs.Prelude.{◌≡◌, ◌≢◌, List, IsTrue, OnErr, OnOk};
 ghost use Rattle.scan_wire.specs.Messages.{ReplyParts, RequestParts, borrowed_parts};
 ghost use Rattle.scan_serve.specs.Answering.{Answered, Stopped};
 

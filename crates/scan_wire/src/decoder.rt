@@ -1,6 +1,5 @@
 //! Reading requests from a stream that comes in pieces.
 ghost use Rattle.std.specs.Prelude.{◌≡◌, ◌↔◌, ◌+◌, ◌<◌, ◌≤◌, [], drop, length, IfErr, IfOk, IfSome, IsOkUnless, IsTrue, MatchOption, OnErr, OnOk};
-ghost use Rattle.scan_wire.specs.declared.fault.Cause.{Cause};
 ghost use Rattle.scan_wire.specs.declared.fault.Fault.TheVariants.{BadFrame, OutOfMemory};
 ghost use Rattle.scan_wire.specs.Causes.{HasCause, IfBadFrame, Waits};
 ghost use Rattle.scan_wire.specs.Decoders.{IsFed, MeetsBadFrame};

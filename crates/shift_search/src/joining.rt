@@ -1,5 +1,5 @@
 //! The ends that probes rule out, shifted and combined: in one word of eight bytes, or in four words in a row.
-ghost use Rattle.std.specs.Prelude.{◌≡◌, ℕ, ◌+◌, ◌-◌, ◌*◌, ◌/◌, ◌%◌, ◌^◌, ◌<◌, ◌≤◌, List, bit_or, slice_index};
+ghost use Rattle.std.specs.Prelude.{◌≡◌, ℕ, ◌+◌, ◌-◌, ◌*◌, ◌/◌, ◌%◌, ◌^◌, ◌<◌, List, bit_or, slice_index};
 ghost use Rattle.std.specs.Int.{bit_at};
 ghost use Rattle.shift_search.specs.ShiftOr.{AreRuled, Bucketing, IsRuled, RulesOut, RulesOutWords};
 

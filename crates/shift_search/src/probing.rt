@@ -1,5 +1,5 @@
 //! Probes by pairs of bytes of a text: which ends their entries rule out, at eight positions or at 32.
-ghost use Rattle.std.specs.Prelude.{◌≡◌, ℕ, ◌+◌, ◌-◌, ◌*◌, ◌≤◌, length, slice_index};
+ghost use Rattle.std.specs.Prelude.{◌≡◌, ◌+◌, ◌-◌, ◌*◌, ◌≤◌, length, slice_index};
 ghost use Rattle.shift_search.specs.ShiftOr.{AreEntriesOf, AreRuled, Bucketing, IsRuled, RulesOut, RulesOutWords};
 ghost use Rattle.shift_search.specs.declared.entries.TheConstants.{ENTRIES};
 

@@ -1,6 +1,6 @@
 //! Shift-or over buckets of literals, as in Hyperscan's FDR: the bytes before an end rule it out. Costs are in tenths
 //! of a nanosecond.
-ghost use Rattle.std.specs.Prelude.{◌≡◌, ℕ, ◌+◌, ◌-◌, ◌*◌, ◌<◌, ◌≤◌, IfOk, IfSome, length, slice_index, false};
+ghost use Rattle.std.specs.Prelude.{◌≡◌, ℕ, ◌+◌, ◌-◌, ◌*◌, ◌<◌, ◌≤◌, IfOk, IfSome, length, false};
 ghost use Rattle.std.specs.Option.{IfNone};
 ghost use Rattle.shift_search.specs.Blocks.{AreNoted};
 ghost use Rattle.lit_base.specs.NextEnds.{Finds, NoEndUpTo};

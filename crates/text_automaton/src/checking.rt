@@ -1,9 +1,8 @@
 //! Whether tables are right. However they were built, tables that pass give all ends, and no others.
-ghost use Rattle.std.specs.Prelude.{◌≡◌, ◌↔◌, ◌⊎◌, ◌++◌, ◌∷◌, [], ℕ, ◌*◌, ◌<◌, ◌≤◌, IsTrue, length, slice_index, slice_range, true};
+ghost use Rattle.std.specs.Prelude.{◌≡◌, ◌↔◌, ◌⊎◌, ◌++◌, ◌∷◌, [], ℕ, ◌*◌, ◌<◌, ◌≤◌, IsTrue, length, slice_index, true};
 ghost use Rattle.std.specs.List.Sorted.{IsStrictlyIncreasing};
-ghost use Rattle.lit_base.specs.Literals.{literal_at};
 ghost use Rattle.lit_base.specs.Folding.{folded};
-ghost use Rattle.text_automaton.specs.Tables.{AreAsMany, AreClasses, AreRight, AreSized, IsChild, IsFail, IsKnown, IsOutputRight, IsSpelled, IsState, IsStep, output_at, step};
+ghost use Rattle.text_automaton.specs.Tables.{AreAsMany, AreClasses, AreRight, AreSized, IsChild, IsFail, IsOutputRight, IsSpelled, IsState, IsStep, output_at, step};
 
 use crate::tables::{CLASSES, MOST_STATES, Tables};
 use lit_base::{Fold, LitList, fold_byte};

@@ -1,5 +1,5 @@
 //! Checks by the last bytes of keys, which rule out most positions where no literal ends.
-ghost use Rattle.std.specs.Prelude.{◌≡◌, ℕ, ◌-◌, ◌^◌, ◌<◌, ◌≤◌, ◌⊎◌, length, max, min, slice_index, vec_len, IfOk};
+ghost use Rattle.std.specs.Prelude.{◌≡◌, ℕ, ◌-◌, ◌^◌, ◌<◌, ◌≤◌, length, max, min, slice_index, IfOk};
 ghost use Rattle.std.specs.Int.{bit_at};
 ghost use Rattle.list_index.specs.Chains.{key_width_at};
 ghost use Rattle.list_index.specs.Checks.{AreChecksOf, checked_width};

@@ -3,7 +3,6 @@ use Rattle.std.proofs.Common.{◌+◌, ◌-◌, ◌/◌, ◌≤◌, length, subs
 use Rattle.lit_cert.specs.Steps.{IsLeastRun}
 use Rattle.lit_cert.proofs.LeastRuns.{suffice_before, suffice_after}
 use Rattle.lit_cert.proofs.dividing.+places_hold.Goals as goal
-use Rattle.lit_cert.proofs.dividing.+places_hold.Goals.{then-here-p, else-here-p}
 
 pub places_hold-requires : goal.places_hold-requires
 places_hold-requires t c =

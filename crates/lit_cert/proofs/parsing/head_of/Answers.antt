@@ -1,4 +1,4 @@
-use Rattle.std.proofs.Common.{◌≡◌, ◌++◌, ◌∷◌, ◌^◌, ◌<◌, ℕ, List, Bor, codes}
+use Rattle.std.proofs.Common.{◌≡◌, ◌++◌, ◌^◌, ◌<◌, ℕ, List, Bor}
 use Rattle.lit_cert.specs.declared.fault.Fault.TheVariants.{BadCertText}
 use Rattle.arrayvec.specs.ArrayVec.{ArrayVec}
 use Rattle.lit_cert.specs.Spelling.{IsCount, HasEnds, line_text, literals_words, ends_words, cost_words, version_words}

@@ -1,5 +1,5 @@
 -- Two first lines are tried.
-use Rattle.std.proofs.Common.{◌≡◌, ◌≢◌, ℕ, List, ◌++◌, ◌∷◌, codes, ap, sym, ◌∙◌}
+use Rattle.std.proofs.Common.{◌≢◌, ℕ, List, ◌++◌, ◌∷◌, codes, ap, sym, ◌∙◌}
 use Rattle.lit_base.specs.declared.profile.Profile.{Profile}
 use Rattle.lit_base.specs.declared.profile.Profile.TheVariants.{Eight, Sixteen}
 use Rattle.lit_cert.proofs.ProfileTexts.{first_line_of, first_of_eight, first_of_sixteen}

@@ -1,5 +1,5 @@
 -- The prices of the list's meter are the list's costs.
-use Rattle.std.proofs.Common.{subst, arith}
+use Rattle.std.proofs.Common.{subst}
 use Rattle.lit_base.specs.Costs.{run_cost}
 use Rattle.lit_base.specs.Profiles.{buckets}
 use Rattle.lit_base.specs.Literals.{lengths}
