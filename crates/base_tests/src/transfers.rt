@@ -1,8 +1,6 @@
 //! What each limit, each refused call and each place of a fault makes of a transfer.
-use byte_io::{
-    ByteIn, ByteOut, CutIn, CutOut, Failed, MAX_TURNS, ReadError, read_to_end, say_text, write_all,
-};
-use std::alloc::{AllocError, Global};
+use byte_io::{ByteIn, ByteOut, CutIn, CutOut, Failed, MAX_TURNS, ReadError, read_to_end, write_all};
+use std::alloc::Global;
 
 const TEXT: &[u8] = b"abcdefg";
 

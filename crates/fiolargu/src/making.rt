@@ -16,7 +16,7 @@ use crate::views::Bytes;
 use c_handle::{PlanHandle, SharedPlan};
 use flow_scan::{Compiled, TunedPlan};
 use list_plan::compile;
-use lit_base::{Fault, Fold, LitList, Profile, RawList};
+use lit_base::{Fault, LitList, RawList, fold_of, profile_of};
 use std::alloc::Global;
 use std::sync::Arc;
 

@@ -11,7 +11,7 @@ ghost use Rattle.grep_run.specs.Sources.{found};
 use crate::compiled_patterns::CompiledPatterns;
 use crate::options::GrepOptions;
 use byte_io::{ByteIn, Opener, ReadError, read_to_end};
-use lit_base::{Fault, MAX_TEXT_LEN, RawList, lines_law};
+use lit_base::{Fault, MAX_TEXT_LEN, RawList};
 use std::alloc::Global;
 
 /// Why a run has no patterns.

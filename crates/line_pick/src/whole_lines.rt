@@ -7,7 +7,7 @@ ghost use Rattle.line_pick.specs.declared.whole_lines.TheConstants.{LENGTHS};
 
 use crate::matcher::is_literal;
 use list_index::ListIndex;
-use lit_base::{Fold, fold_byte};
+use lit_base::fold_byte;
 use std::marker::Model;
 
 /// The number of classes of lengths: all lengths from `LENGTHS - 1` on are one class.

@@ -18,7 +18,7 @@ use byte_io::{ByteIn, ByteOut, Files};
 use flow_scan::Compiled;
 use lit_base::{Ends, LitList, Profile};
 use lit_cert::{Certificate, read_cert};
-use plan_pack::{Reading, Refusal, Stop, placed_list_of, plans_of};
+use plan_pack::{Refusal, Stop, placed_list_of, plans_of};
 use plan_view::{plan_svg, plan_text};
 use run_planner::{Fault, plan};
 use std::alloc::{AllocError, Global};

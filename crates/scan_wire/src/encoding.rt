@@ -14,7 +14,7 @@ use crate::kinds::{
 use crate::message::Reply;
 use crate::numbers::{push_u16, push_u32, push_u64};
 use flow_scan::Hit;
-use lit_base::{Ends, Fold, Profile, flags_of};
+use lit_base::{Fold, Profile, flags_of};
 use std::alloc::{AllocError, Global};
 
 /// Appends the head of a frame, before a payload of `len` bytes.
