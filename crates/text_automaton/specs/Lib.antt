@@ -1,3 +1,4 @@
 pub mod Automata
 pub mod Prefixes
+pub mod TableStates
 pub mod Tables

@@ -5,6 +5,7 @@ ghost use Rattle.text_automaton.specs.Automata.{IsReading, IsStateAt, place_of, 
 
 use crate::reading::Reading;
 use crate::reporting::first_reporting;
+use crate::table_state::TableState;
 use crate::tables::{MOST_STATES, Tables};
 use list_index::ListIndex;
 use lit_base::LitList;
@@ -22,15 +23,13 @@ pub struct Automaton {
     tables: Tables,
     /// The number of states that the tables have room for.
     room: usize,
-    /// Whether the tables were requested, and refused: the list has too many prefixes, bytes or outputs for them.
-    is_refused: bool,
-    /// Whether they were made, and are right.
-    is_made: bool,
+    state: TableState,
 }
 
 impl Model for Automaton {
     ghost use Rattle.std.specs.Prelude.{◌≡◌, true};
     ghost use Rattle.text_automaton.specs.Automata.{Outputs, room_of};
+    ghost use Rattle.text_automaton.specs.TableStates.{has_tables};
     ghost use Rattle.text_automaton.specs.Tables.{AreRight};
 
     ghost Value = { Outputs };
@@ -41,10 +40,10 @@ impl Model for Automaton {
       lows = a.tables.lows.items;
       highs = a.tables.highs.items;
       quiet = a.tables.quiet;
-      is_made = a.is_made;
+      is_made = has_tables a.state;
     } };
 
-    ghost invariant = { λ a. (a.is_made ≡ true → AreRight a.tables a.index.value) × (a.room ≡ room_of a.index.value) };
+    ghost invariant = { λ a. (has_tables a.state ≡ true → AreRight a.tables a.index.value) × (a.room ≡ room_of a.index.value) };
 }
 
 impl Automaton {
@@ -59,8 +58,7 @@ impl Automaton {
             index,
             tables: Tables::new(alloc, room)?,
             room,
-            is_refused: false,
-            is_made: false,
+            state: TableState::Missing,
         })
     }
 
@@ -86,13 +84,21 @@ impl Automaton {
         ensures made { result ≡ self.new.is_made }
         ensures kept { self.old.is_made ≡ true → self.new ≡ self.old }
     {
-        if self.is_made || self.is_refused {
-            return self.is_made;
+        match self.state {
+            TableState::Made => true,
+            TableState::Refused => false,
+            TableState::Missing => self.make_tables(),
         }
+    }
+
+    /// Builds the tables, and checks them. Returns whether they are right.
+    fn make_tables(&mut self) -> bool
+        ensures literals { self.new.literals ≡ self.old.literals }
+        ensures made { result ≡ self.new.is_made }
+    {
         let list = self.index.list();
         let is_right = self.tables.make(list).is_some() && self.tables.are_right(list);
-        self.is_made = is_right;
-        self.is_refused = !is_right;
+        self.state = TableState::after(is_right);
         is_right
     }
 
@@ -100,7 +106,7 @@ impl Automaton {
     pub(crate) fn is_made(&self) -> bool
         ensures { result ≡ self.now.is_made }
     {
-        self.is_made
+        self.state.is_made()
     }
 
     /// The next position at which some literal ends, with its state; the reading moves there. `None` if no literal ends

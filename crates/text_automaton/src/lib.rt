@@ -7,6 +7,7 @@ mod checking;
 mod making;
 mod reading;
 mod reporting;
+mod table_state;
 mod tables;
 
 pub use automaton::Automaton;

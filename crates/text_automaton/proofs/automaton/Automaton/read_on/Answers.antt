@@ -2,6 +2,7 @@
 use Rattle.std.proofs.Common.{◌≡◌, ◌+◌, ◌≤◌, All, ap, ◌∙◌, subst, slice_index, arith}
 use Rattle.lit_base.specs.Literals.{IsNormal, Literals, lengths}
 use Rattle.text_automaton.specs.Automata.{IsStateAt, Outputs}
+use Rattle.text_automaton.specs.TableStates.{has_tables}
 use Rattle.text_automaton.proofs.OutputLemmas.{state_there}
 use Rattle.text_automaton.proofs.automaton.Automaton.read_on.Goals as goal
 
@@ -18,7 +19,7 @@ returns-clause-reading c =
     record {
       made = c.requires.reading.made;
       states = λ at low. subst (λ (x : Outputs). IsStateAt x text (start + at + 1) (slice_index states at)) c.self.view_is
-          (state_there a.tables a.index.value text c.longest-longest.result (start + at + 1) (slice_index states at) a.is_made right normal.nonempty longest
+          (state_there a.tables a.index.value text c.longest-longest.result (start + at + 1) (slice_index states at) (has_tables a.state) right normal.nonempty longest
           (λ i. omega (arith, c.type_inv.text i)) (omega (arith, low, c.read_after-count.ensures.count, c.requires.more)) (c.read_after-count.ensures.states at low));
       passed = omega arith;
       room = omega (arith, c.read_after-count.ensures.count);
