@@ -129,19 +129,18 @@ impl EndFinder {
                 found
             }
             _ => {
-                let before = search.missed();
+                let before = search.false_positives();
                 let found = search.next_end_after(from);
                 let (count, rate) = passed(text, from, found);
-                let missed = search.missed().saturating_sub(before);
-                self.strategy
-                    .note(count, cost_by_prefilter(missed, 0), rate);
+                let more = search.false_positives().saturating_sub(before);
+                self.strategy.note(count, cost_by_prefilter(more, 0), rate);
                 found
             }
         }
     }
 
-    /// Adds hits by the automaton, as `add_hits` does, or by the plan if the automaton is not made. It stands alone
-    /// because its readings take 8 KiB of the stack.
+    /// Adds hits by the automaton, as `add_hits` does, or by the prefilter if the automaton is not made. It stands
+    /// alone because its readings take 8 KiB of the stack.
     fn add_by_automaton(
         &mut self,
         compiled: &Compiled,

@@ -1,4 +1,4 @@
-//! Searches for the hits of a text: by a plan alone, or by a finder.
+//! Searches for the hits of a text: by the prefilter of a plan alone, or by a finder.
 ghost use Rattle.std.specs.Prelude.{◌≡◌, ◌+◌, ◌-◌, ◌^◌, ◌<◌, ◌≤◌, length};
 ghost use Rattle.lit_base.specs.Literals.{Literals};
 ghost use Rattle.text_search.specs.Searched.{AddsHits};
@@ -48,7 +48,7 @@ pub trait HitSearch {
     }
 }
 
-/// The search by a plan alone.
+/// The search by the prefilter of a plan alone.
 #[derive(Drop)]
 pub struct PrefilterSearch;
 

@@ -11,7 +11,7 @@ use lit_plan::Compiled;
 use std::alloc::{AllocError, Global};
 use text_ends::Hit;
 
-/// The search by a finder, or by the plan alone while there is none.
+/// The search by a finder, or by the prefilter alone while there is none.
 impl HitSearch for Option<EndFinder> {
     ghost serves = { λ finder literals. IfSome finder (λ list. list ≡ literals) };
 
@@ -46,7 +46,7 @@ impl HitSearch for Option<EndFinder> {
 }
 
 /// The next position of a search's text at which some literal ends, by the finder if there is one, and otherwise by the
-/// plan alone.
+/// prefilter alone.
 #[inline]
 pub fn next_end_by(
     finder: &mut Option<EndFinder>,

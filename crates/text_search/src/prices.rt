@@ -1,16 +1,17 @@
-//! Measured and estimated costs of searches by the plan and by the automaton, in tenths of a nanosecond.
+//! Measured and estimated costs of searches by the prefilter and by the automaton, in tenths of a nanosecond.
 
 use crate::tuning::{
-    AUTOMATON_COST, AUTOMATON_GAIN, CANDIDATE_COST, DENSE, LANE_COST, NEAR_STATES,
-    PREFILTER_END_COST,
+    AUTOMATON_COST, AUTOMATON_GAIN, DENSE, LANE_COST, NEAR_STATES, PREFILTER_END_COST,
+    PREFILTER_FALSE_POSITIVE_COST,
 };
 use text_ends::EndRate;
 
-/// The cost of `missed` false positives and of `ends` ends of a scan under the prefilter; the filter itself is not
-/// included. Where ends stand apart, an end costs more than by factors; the price is the difference.
-pub(crate) fn cost_by_prefilter(missed: usize, ends: usize) -> usize {
-    let misses = missed.saturating_mul(CANDIDATE_COST);
-    misses.saturating_add(ends.saturating_mul(PREFILTER_END_COST))
+/// The cost of false positives and of `ends` ends of a scan under the prefilter; the filter itself is not included.
+/// Where ends stand apart, an end costs more than by factors; the price is the difference.
+pub(crate) fn cost_by_prefilter(false_positives: usize, ends: usize) -> usize {
+    false_positives
+        .saturating_mul(PREFILTER_FALSE_POSITIVE_COST)
+        .saturating_add(ends.saturating_mul(PREFILTER_END_COST))
 }
 
 /// The extra cost of dense ends by factors or shift-or, for 1,024 bytes. It is 0 if ends stand apart, or if the search

@@ -138,7 +138,7 @@ impl Estimates {
     }
 }
 
-/// What a finder has measured since it chose its engine.
+/// What a finder has measured since it chose its engine. Costs are in tenths of a nanosecond.
 #[derive(Clone, Copy, Debug)]
 struct Measured {
     bytes: usize,
@@ -160,7 +160,7 @@ impl Measured {
     }
 }
 
-/// The engine that a finder uses, and when it tunes.
+/// The engine that a finder uses, and when it tunes. Allowances and losses are in tenths of a nanosecond.
 #[derive(Clone, Copy, Debug)]
 pub(crate) struct Strategy {
     engine: Engine,
@@ -277,11 +277,11 @@ impl Strategy {
     /// another engine its allowance has to be an eighth below the allowance in use, or below half of the measured cost.
     /// Estimates are often too low: frequent literals cost factors more than a sample shows.
     fn is_better(&self, cost: usize, allowed: usize) -> bool {
-        let taken = self.taken();
+        let spent = self.measured_cost();
         if self.is_tuned() {
-            allowed < self.allowed - self.allowed / 8 || allowed < taken / 2
+            allowed < self.allowed - self.allowed / 8 || allowed < spent / 2
         } else {
-            cost < taken - taken / 8
+            cost < spent - spent / 8
         }
     }
 
@@ -296,12 +296,12 @@ impl Strategy {
 
     /// The measured cost of 1,024 bytes since the last choice. Under the prefilter only false positives and ends are
     /// noted, so the filter is charged by its price, `MASKS_COST`.
-    fn taken(&self) -> usize {
-        let taken = self.measured.cost.saturating_mul(1024) / self.measured.bytes.max(1);
+    fn measured_cost(&self) -> usize {
+        let cost = self.measured.cost.saturating_mul(1024) / self.measured.bytes.max(1);
         if self.is_tuned() {
-            taken
+            cost
         } else {
-            taken.saturating_add(MASKS_COST)
+            cost.saturating_add(MASKS_COST)
         }
     }
 }

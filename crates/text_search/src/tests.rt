@@ -15,7 +15,7 @@ fn estimates(factors: usize, shift_or: usize, automaton: usize) -> Estimates {
     }
 }
 
-/// A tuned search with these estimates for factors and shift-or, after the plan took far more.
+/// A tuned search with these estimates for factors and shift-or, after the prefilter took far more.
 fn promised(by_factors: usize, by_shift_or: usize) -> Strategy {
     promised_three(by_factors, by_shift_or, usize::MAX)
 }

@@ -68,13 +68,13 @@ impl<'a> TextSearch<'a> {
     }
 
     /// How many false positives the search has found so far.
-    pub(crate) fn missed(&self) -> usize {
+    pub(crate) fn false_positives(&self) -> usize {
         self.ends.tally().false_positives
     }
 }
 
-/// The first position of the text after `from` at which some literal ends, wherever it begins, or `None`, by the plan
-/// alone. It takes no memory.
+/// The first position of the text after `from` at which some literal ends, wherever it begins, or `None`, by the
+/// prefilter alone. It takes no memory.
 pub fn first_end_after(compiled: &Compiled, text: &[u8], from: usize) -> Option<usize>
     ensures { FindsNext compiled.now.literals text.now from result }
 {

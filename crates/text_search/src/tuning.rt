@@ -37,12 +37,12 @@ pub(crate) const SPAN: usize = SAMPLE;
 /// Parts of the first span; a scan in memory may tune after each. Not varied.
 pub(crate) const FIRST_SPANS: usize = 4;
 
-/// Bytes. The plan searches shorter texts, such as the boundary of two pieces, since factors probe each byte there.
-/// Not varied.
+/// Bytes. The prefilter searches shorter texts, such as the boundary of two pieces, since factors probe each byte
+/// there. Not varied.
 pub(crate) const LEAST_CHOSEN: usize = 64;
 
-/// Bytes. The plan searches shorter texts instead of the automaton, which starts slowly. Measured: with 512, frequent
-/// lists in short pieces took twice as long.
+/// Bytes. The prefilter searches shorter texts instead of the automaton, which starts slowly. Measured: with 512,
+/// frequent lists in short pieces took twice as long.
 pub(crate) const LEAST_BY_AUTOMATON: usize = 128;
 
 /// Bytes. A shorter piece, without the bytes at its boundary, is not gathered: it gains less than tuned searches of it
@@ -52,24 +52,24 @@ pub(crate) const LEAST_GATHERED: usize = 192;
 /// Bytes. The same for at most `MOST_BY_PLAN_MASKS` literals. Measured, not varied.
 pub(crate) const LEAST_GATHERED_BY_PLAN_MASKS: usize = 3072;
 
-/// Bytes between two ends. At this distance an end costs factors and shift-or as much as the plan. Measured on four
-/// lists.
+/// Bytes between two ends. At this distance an end costs factors and shift-or as much as the prefilter. Measured on
+/// four lists.
 pub(crate) const DENSE: usize = 3;
 
 // Prices, in tenths of a nanosecond.
 
-/// A false positive of the plan. Chosen with `LEAST_LOSS` on one seed, not measured.
-pub(crate) const CANDIDATE_COST: usize = 400;
+/// A false positive of the prefilter. Chosen with `LEAST_LOSS` on one seed, not measured.
+pub(crate) const PREFILTER_FALSE_POSITIVE_COST: usize = 400;
 
-/// What the plan may take for 1,024 bytes in addition to its filter: a little more than one false positive.
+/// What the prefilter may take for 1,024 bytes in addition to its filter: a little more than one false positive.
 /// Not varied.
 pub(crate) const PREFILTER_SLACK: usize = 512;
 
 /// What another engine may take for 1,024 bytes beyond one and a half times its estimate. Not varied.
 pub(crate) const TUNED_SLACK: usize = 2048;
 
-/// An end of a scan by the plan, less the cost of an end by factors, which continue in the same block. Measured, not
-/// varied.
+/// An end of a scan by the prefilter, less the cost of an end by factors, which continue in the same block. Measured,
+/// not varied.
 pub(crate) const PREFILTER_END_COST: usize = 500;
 
 /// The automaton, for 1,024 bytes without ends, while its rows stay in the cache. Measured.
@@ -89,7 +89,7 @@ pub(crate) const AUTOMATON_GAIN: usize = 500;
 // Losses, in tenths of a nanosecond.
 
 /// A finder tunes at this loss. It is less than tuning costs, since the rest of the text gains too. Chosen with
-/// `CANDIDATE_COST`.
+/// `PREFILTER_FALSE_POSITIVE_COST`.
 pub(crate) const LEAST_LOSS: usize = 1_500_000;
 
 /// The largest multiple of the least loss for which a finder waits, if tuning gains little. Not varied.
