@@ -9,11 +9,11 @@ use Rattle.list_index.specs.Suffixes.{hash_of, masked_key, suffix_key}
 use Rattle.list_index.proofs.SuffixLemmas.{AreBytes, key-occurs_inside, literal_is}
 use Rattle.factor_search.specs.declared.widths.TheConstants.{HASH_BITS, WIDTH}
 use Rattle.factor_search.specs.Widths.{IsLeastWidth, width_at}
-use Rattle.factor_search.specs.Factors.{AreHashBits, AreMarkedByFactors, Factored, factor_key, offset_at}
+use Rattle.factor_search.specs.Factors.{AreHashBits, AreFactorBits, Factored, factor_key, offset_at}
 
 -- the hash bits of a position are complete if they include the bits for the bytes before it by all widths from the
 -- least on
-pub hash_bits_are : (w : Factored) (fold : Fold) (least : ℕ) (hash_bits text : List ℕ) (at result : ℕ) → fold ≡ w.literals.folding → IsLeastWidth w.literals least → AreMarkedByFactors w.literals w.offsets hash_bits (length w.literals.texts) → AreBytes text
+pub hash_bits_are : (w : Factored) (fold : Fold) (least : ℕ) (hash_bits text : List ℕ) (at result : ℕ) → fold ≡ w.literals.folding → IsLeastWidth w.literals least → AreFactorBits w.literals w.offsets hash_bits (length w.literals.texts) → AreBytes text
     → ((width back : ℕ) → least ≤ width → width ≤ WIDTH → width ≤ at → HasBit hash_bits (hash_of HASH_BITS (suffix_key fold text at width)) back → bit_at result back ≡ 1)
     → AreHashBits w text at result
 hash_bits_are w fold least hash_bits text at result same fits are bytes known place occurs =

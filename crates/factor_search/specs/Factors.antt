@@ -38,7 +38,7 @@ abbrev pub factor_key : Literals → ℕ → ℕ → ℕ
 factor_key l place offset = suffix_key l.folding (literal_at l place) (length (literal_at l place) - offset) (width_at l place)
 
 -- each literal before a place has the hash bit of its factor, and no other bit is set
-pub record AreMarkedByFactors (l : Literals) (offsets hash_bits : List ℕ) (count : ℕ) : Type 0 where
+pub record AreFactorBits (l : Literals) (offsets hash_bits : List ℕ) (count : ℕ) : Type 0 where
   pub offsets_len : length offsets ≡ length l.texts
   pub factors : (place : ℕ) → place < count → IsFactor l place (slice_index offsets place)
   pub bits : AreKeyBits HASH_BITS (λ place. factor_key l place (slice_index offsets place)) (slice_index offsets) count hash_bits

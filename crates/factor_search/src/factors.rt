@@ -48,14 +48,14 @@ impl Model for Factors {
     ghost use Rattle.nib_mask.specs.Prefixes.{CoversPrefixes};
     ghost use Rattle.nib_mask.specs.Halves.{widened};
     ghost use Rattle.factor_search.specs.Widths.{IsLeastWidth};
-    ghost use Rattle.factor_search.specs.Factors.{AreMarkedByFactors, Factored};
+    ghost use Rattle.factor_search.specs.Factors.{AreFactorBits, Factored};
 
     ghost Value = { Factored };
 
     ghost view = { λ w. record { literals = w.index.value; offsets = w.offsets.items } };
 
     ghost invariant = { λ w. IsLeastWidth w.index.value w.least
-        × AreMarkedByFactors w.index.value w.offsets.items w.hash_bits.items (length w.index.value.texts)
+        × AreFactorBits w.index.value w.offsets.items w.hash_bits.items (length w.index.value.texts)
         × CoversPrefixes w.index.value (length w.index.value.texts) w.offsets.items (widened w.masks)
         × (vec_len w.buckets ≡ length w.index.value.texts)
         × (2 ^ HASH_BITS ≤ vec_capacity w.counts.threes) };

@@ -1,4 +1,4 @@
-//! The state of a scan of a stream, without its plan.
+//! The state of a scan of a stream, without its plan: what `Scanner` and `Stream` have in common.
 ghost use Rattle.std.specs.Prelude.{◌≡◌, ◌+◌, ◌-◌, ◌^◌, ◌<◌, ◌++◌, IfOk, IsOk, OnErr, length, min};
 ghost use Rattle.lit_base.specs.NextEnds.{NoEndAfter};
 ghost use Rattle.flow_scan.specs.Scanners.{FeedsUpTo, Reached, scanning, started_at};

@@ -1,4 +1,4 @@
-//! Scans a stream that comes in pieces.
+//! A scan of a stream that borrows its plan and searches by its prefilter alone, or by a finder of the caller.
 ghost use Rattle.std.specs.Prelude.{◌≡◌, ◌-◌, IfOk, IsOkUnless, OnOk, length, min};
 ghost use Rattle.lit_plan.specs.declared.fault.Fault.TheVariants.{OutOfMemory};
 ghost use Rattle.flow_scan.specs.Scanners.{FeedsUpTo, MayRefuse, Scanning, fed, started};

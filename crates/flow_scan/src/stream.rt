@@ -1,4 +1,4 @@
-//! A scan of a stream that shares its plan.
+//! A scan of a stream that owns a share of its plan, and makes a finder of its own for a long stream.
 ghost use Rattle.std.specs.Prelude.{◌≡◌, ◌-◌, IfOk, IsOkUnless, length, min};
 ghost use Rattle.std.specs.Arc.{arc_value};
 ghost use Rattle.lit_plan.specs.declared.fault.Fault.TheVariants.{OutOfMemory};

@@ -25,7 +25,7 @@ struct EndBits {
 }
 
 /// The first candidate after one position and up to another, tested one position after the other.
-fn plain_bits<T: EndTest>(test: &T, text: &[u8], from: usize, to: usize) -> EndBits
+fn single_bits<T: EndTest>(test: &T, text: &[u8], from: usize, to: usize) -> EndBits
     requires ordered { from ≤ to }
     requires within { to ≤ length text.now }
     ensures marked { AreMarked (T.candidate test.now text.now) from result.first result.done result.mask }
@@ -140,9 +140,9 @@ fn short_bits<T: EndTest>(test: &T, text: &[u8], from: usize) -> EndBits
 {
     let start = from.max(test.reach() - 1);
     if text.len() <= start || text.len() > MOST_COPIED {
-        return plain_bits(test, text, from, text.len());
+        return single_bits(test, text, from, text.len());
     }
-    let bits = plain_bits(test, text, from, start);
+    let bits = single_bits(test, text, from, start);
     if bits.mask != 0 {
         return bits;
     }
@@ -162,7 +162,7 @@ fn next_bits<T: EndTest>(test: &T, text: &[u8], from: usize) -> EndBits
         return short_bits(test, text, from);
     }
     let start = from.max(reach - 1);
-    let bits = plain_bits(test, text, from, start);
+    let bits = single_bits(test, text, from, start);
     if bits.mask != 0 {
         return bits;
     }

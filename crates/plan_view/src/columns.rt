@@ -24,7 +24,6 @@ fn push_number(width: usize, number: u64, text: &mut Vec<u8>) -> Result<(), Allo
 }
 
 /// Appends a text at the right of a column.
-
 fn push_right(width: usize, shown: &[u8], text: &mut Vec<u8>) -> Result<(), AllocError>
     ensures { OnOk result (text.new.items ≡ text.old.items ++ right width shown.now) }
 {

@@ -5,13 +5,15 @@ ghost use Rattle.std.specs.Int.{bit_at};
 
 use lane_filter::from_bit;
 
-/// The result of probes at eight positions in a row: which ends are not ruled out there, and which are ruled out at the
-/// eight positions after them. Bit `8 * ahead + bucket` stands for an end of the bucket `ahead` positions after the
-/// first.
+/// The result of probes at eight positions in a row. Bit `8 * ahead + bucket` of a word stands for an end of the bucket
+/// `ahead` positions after the first.
 #[derive(Clone, Copy, Debug)]
 pub(crate) struct Probes {
+    /// The first of the positions.
     pub at: usize,
+    /// The ends there that are not ruled out.
     pub unruled: u64,
+    /// The ends that are ruled out at the eight positions after them.
     pub carried: u64,
 }
 

@@ -1,5 +1,10 @@
 //! Shift-or over buckets of literals, as in Hyperscan's FDR: the bytes before an end rule it out. Costs are in tenths
 //! of a nanosecond.
+//!
+//! `next_by` compares the literals at the first positions of a text one by one. `next_by_step` then probes 32 positions
+//! a turn, and `verify_four` verifies the ends that the probes leave. Where such ends are close together, `pass_blocks`
+//! probes 1,024 positions before it verifies any. `next_by_eights` probes the last positions by eight, and
+//! `next_unprobed` compares at the few after them.
 ghost use Rattle.std.specs.Prelude.{◌≡◌, ℕ, ◌+◌, ◌-◌, ◌*◌, ◌<◌, ◌≤◌, IfOk, IfSome, length, false};
 ghost use Rattle.std.specs.Option.{IfNone};
 ghost use Rattle.shift_search.specs.Blocks.{AreNoted};

@@ -1,4 +1,4 @@
-//! The loop over the ends in a text, which adds the hits at each. It works with every engine.
+//! A walk over the ends in a text, which is the interface of an engine, and the loop that adds the hits of any walk.
 ghost use Rattle.std.specs.Prelude.{◌≡◌, ℕ, ◌+◌, ◌-◌, ◌^◌, ◌<◌, ◌≤◌, IfOk, IfSome, IsOk, MatchOption, OnErr, OnOk, length};
 ghost use Rattle.std.specs.Option.{IfNone};
 ghost use Rattle.lit_base.specs.NextEnds.{IsNextEnd, NoEndAfter};

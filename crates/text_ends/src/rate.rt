@@ -2,7 +2,7 @@
 ghost use Rattle.std.specs.Prelude.{◌≡◌};
 
 /// At how many positions of some bytes of a text literals end, and after how many of these a new search began. A search
-/// for single ends begins anew after each, a scan after none.
+/// for single ends begins anew after each, a scan after none. An estimate takes the counts for 1,024 bytes.
 #[derive(Clone, Copy, Debug)]
 pub struct EndRate {
     /// Positions at which a literal ends.

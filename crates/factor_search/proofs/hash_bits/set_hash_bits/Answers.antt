@@ -4,7 +4,7 @@ use Rattle.std.specs.Int.{bit_at}
 use Rattle.std.proofs.lemmas.Bool.{cases_lt}
 use Rattle.std.proofs.lemmas.List.{get_or-replicate, get_or_past, length-replicate}
 use Rattle.std.proofs.lemmas.Nat.Bits.{bit_at-zero}
-use Rattle.factor_search.specs.Factors.{AreMarkedByFactors}
+use Rattle.factor_search.specs.Factors.{AreFactorBits}
 use Rattle.factor_search.proofs.hash_bits.set_hash_bits.Goals as goal
 
 zero_at : (n i : ℕ) → get_or {A = ℕ} (replicate n 0) i 0 ≡ 0
@@ -26,4 +26,4 @@ loop-place-init c = record {
 pub returns : goal.returns
 returns c =
     let all : c.loop-place.place ≡ length c.args.list.now.texts = omega (arith, c.loop-place-test.false, c.loop-place.auto.place-end, c.len-place-end.ensures.value) in
-    subst (λ count. AreMarkedByFactors c.args.list.now c.loop-place.offsets.items c.loop-place.hash_bits.items count) all c.loop-place.invariant
+    subst (λ count. AreFactorBits c.args.list.now c.loop-place.offsets.items c.loop-place.hash_bits.items count) all c.loop-place.invariant

@@ -1,6 +1,6 @@
 use Rattle.std.proofs.Common.{arith}
 use Rattle.lane_filter.proofs.EndLemmas.{one_marked}
-use Rattle.lane_filter.proofs.candidates.plain_bits.Goals as goal
+use Rattle.lane_filter.proofs.candidates.single_bits.Goals as goal
 
 pub returns-then-is_candidate-clause-marked : goal.returns-then-is_candidate-clause-marked
 returns-then-is_candidate-clause-marked g c =
