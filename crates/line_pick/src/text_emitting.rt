@@ -40,10 +40,10 @@ pub(crate) fn emit_text<S: Sink>(
         if matcher.rule.whole {
             return emit_lines(matcher, None, text, before, sink);
         }
-        return emit_all(!matcher.rule.invert, text, before, is_numbered, sink);
+        return emit_all_if(!matcher.rule.invert, text, before, is_numbered, sink);
     }
     let Some(compiled) = matcher.plan else {
-        return emit_all(matcher.rule.invert, text, before, is_numbered, sink);
+        return emit_all_if(matcher.rule.invert, text, before, is_numbered, sink);
     };
     let are_short = has_short_lines(text);
     // To split and compare each line took 0.6 ns a byte in English text, and to search for 30 of its words 4.5 ns.
@@ -92,7 +92,7 @@ fn emit_hits<S: Sink>(
     let mut lines = before;
     let mut credit = hit_bytes.saturating_mul(MOST_HITS_IN_A_ROW);
     while let Some(hit) = hits.next_line() {
-        lines = emit_all(rule.invert, hit.missed, lines, is_numbered, sink)?;
+        lines = emit_all_if(rule.invert, hit.missed, lines, is_numbered, sink)?;
         let selected = selects_at_hit(compiled, rule, hit.line);
         emit_if(selected, hit.line, lines, sink)?;
         lines += 1;
@@ -101,7 +101,7 @@ fn emit_hits<S: Sink>(
             return emit_whole_lines(compiled, rule, hit.after, lines, sink);
         }
     }
-    emit_all(rule.invert, hits.rest(), lines, is_numbered, sink)
+    emit_all_if(rule.invert, hits.rest(), lines, is_numbered, sink)
 }
 
 /// The credit after a hit under -x. It grows by the bytes that the search passed over, up to a bound, and falls by the
@@ -155,7 +155,7 @@ fn selects_at_hit(compiled: &Compiled, rule: LineRule, line: &[u8]) -> bool
 
 /// Emits all lines of the text if they are selected, and otherwise counts them, if they are numbered.
 #[inline(always)]
-fn emit_all<S: Sink>(
+fn emit_all_if<S: Sink>(
     selected: bool,
     text: &[u8],
     before: u64,

@@ -72,18 +72,18 @@ returns-clause-emitted g c =
     let rest = c.loop-hit.hits.rest in
     let same : c.rest.result.now ≡ rest = c.rest.ensures ∙ ap (λ (s : HitSearch). s.rest) c.in_default.ensures.moved in
     let misses = subst (λ (q : Plan). AllMiss q.literals rest) c.loop-hit.invariant.plan c.in_default.ensures.hit in
-    let last = rw same at c.emit_all-2.ensures.emitted in
-    c.loop-hit.invariant.emitted.go (answer_of c.emit_all-2.result) c.emit_all-2.new.sink
+    let last = rw same at c.emit_all_if-2.ensures.emitted in
+    c.loop-hit.invariant.emitted.go (answer_of c.emit_all_if-2.result) c.emit_all_if-2.new.sink
     (Emitted-lines (sym (missed-numbered l c.args.rule.whole c.args.rule.invert c.loop-hit.lines rest misses)) last)
 
 pub returns-clause-count : goal.returns-clause-count
 returns-clause-count g c =
     let same : c.rest.result.now ≡ c.loop-hit.hits.rest = c.rest.ensures ∙ ap (λ (s : HitSearch). s.rest) c.in_default.ensures.moved in
-    IfOk-weaker c.emit_all-2.result (λ lines. c.args.is_numbered ≡ true → lines ≡ c.loop-hit.lines + length (ended_lines c.rest.result.now)) (λ lines. c.args.is_numbered ≡ true → lines ≡ c.args.before + length (ended_lines c.args.hits.now.rest))
-    (λ lines is e. is e ∙ ap (λ t. c.loop-hit.lines + length (ended_lines t)) same ∙ c.loop-hit.invariant.count e) c.emit_all-2.ensures.count
+    IfOk-weaker c.emit_all_if-2.result (λ lines. c.args.is_numbered ≡ true → lines ≡ c.loop-hit.lines + length (ended_lines c.rest.result.now)) (λ lines. c.args.is_numbered ≡ true → lines ≡ c.args.before + length (ended_lines c.args.hits.now.rest))
+    (λ lines is e. is e ∙ ap (λ t. c.loop-hit.lines + length (ended_lines t)) same ∙ c.loop-hit.invariant.count e) c.emit_all_if-2.ensures.count
 
 pub returns-clause-bound : goal.returns-clause-bound
 returns-clause-bound g c =
     let same : c.rest.result.now ≡ c.loop-hit.hits.rest = c.rest.ensures ∙ ap (λ (s : HitSearch). s.rest) c.in_default.ensures.moved in
-    IfOk-weaker c.emit_all-2.result (λ lines. lines ≤ c.loop-hit.lines + length c.rest.result.now) (λ lines. lines ≤ c.args.before + length c.args.hits.now.rest)
-    (λ lines is. omega (arith, is, c.loop-hit.invariant.room, ap length same)) c.emit_all-2.ensures.bound
+    IfOk-weaker c.emit_all_if-2.result (λ lines. lines ≤ c.loop-hit.lines + length c.rest.result.now) (λ lines. lines ≤ c.args.before + length c.args.hits.now.rest)
+    (λ lines is. omega (arith, is, c.loop-hit.invariant.room, ap length same)) c.emit_all_if-2.ensures.bound

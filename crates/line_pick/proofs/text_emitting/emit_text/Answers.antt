@@ -15,13 +15,13 @@ returns-then-matcher-2-clause-emitted g c = Emitted-taken g.S.Sink.takes c.args.
 pub returns-then-matcher-clause-emitted : goal.returns-then-matcher-clause-emitted
 returns-then-matcher-clause-emitted g c =
     let m = c.args.search.now.matcher in
-    Emitted-lines (numbered-same (λ _. not m.rule.invert) (picks m) c.args.before (ended_lines c.args.text.now) (λ k d inside. picks-null m _ c.if-matcher-2.false c.if-matcher.true)) c.emit_all.ensures.emitted
+    Emitted-lines (numbered-same (λ _. not m.rule.invert) (picks m) c.args.before (ended_lines c.args.text.now) (λ k d inside. picks-null m _ c.if-matcher-2.false c.if-matcher.true)) c.emit_all_if.ensures.emitted
 
 pub returns-in_default-clause-emitted : goal.returns-in_default-clause-emitted
 returns-in_default-clause-emitted g c =
     let m = c.args.search.now.matcher in
     Emitted-lines (numbered-same (λ _. m.rule.invert) (picks m) c.args.before (ended_lines c.args.text.now)
-    (λ k d inside. picks-none m _ c.if-matcher.false (ap option_copied c.in_default.is))) c.emit_all-in_default.ensures.emitted
+    (λ k d inside. picks-none m _ c.if-matcher.false (ap option_copied c.in_default.is))) c.emit_all_if-in_default.ensures.emitted
 
 pub returns-then-not-are_short-clause-emitted : goal.returns-then-not-are_short-clause-emitted
 returns-then-not-are_short-clause-emitted g c =

@@ -9,7 +9,7 @@ use Rattle.line_pick.specs.Matching.{picks}
 use Rattle.line_pick.proofs.CutLemmas.{length-ended_lines}
 use Rattle.line_pick.proofs.EmittedLemmas.{Emitted-lines, numbered-none, numbered-same}
 use Rattle.line_pick.proofs.NumberLemmas.{Emitted-taken}
-use Rattle.line_pick.proofs.text_emitting.emit_all.Goals as goal
+use Rattle.line_pick.proofs.text_emitting.emit_all_if.Goals as goal
 
 -- lines that are not selected are passed over
 passed_over : {S : Type 0} (takes : S → ℕ → List ℕ → Result Next Fault → S → Type 0) (selected is_numbered : Bool) (before : ℕ) (lines : List (List ℕ)) → selected ≡ false → {s : S} → Emitted (as_numbered is_numbered takes) s (numbered (λ _. selected) before lines) (Ok More) s
