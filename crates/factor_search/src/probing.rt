@@ -22,7 +22,7 @@ const BLOCK_BITS: u64 = 0x00ff_ffff_ffff_ffff;
 const STEP: usize = 64;
 
 /// The filter reads three bytes before a position. Where a text has fewer, each position is probed.
-const FIRST: usize = 3;
+const UNFILTERED: usize = 3;
 
 /// The next block from `seen` on in which an end may be pending, or the last block. Returns the position before the
 /// block, and the ends that are pending after it by `hash_bits` and by probes of the block. While no end is pending, it
@@ -45,7 +45,7 @@ pub(crate) fn next_pending(
         → ArePending factors.now text.now from seen (seen + 1) hash_bits
         → ArePending factors.now text.now from result.0 (result.0 + BLOCK + 1) result.1 }
 {
-    if seen < FIRST {
+    if seen < UNFILTERED {
         return (seen, probe_each(factors, text, seen, hash_bits));
     }
     factors.within_law();

@@ -7,7 +7,7 @@ use Rattle.lit_base.specs.NextEnds.{IsFirstFound, NoEndUpTo}
 use Rattle.shift_search.specs.ShiftOr.{Bucketing, RulesOut, bucket_at}
 use Rattle.shift_search.specs.declared.probes.Probes.{Probes}
 use Rattle.shift_search.specs.declared.probes.Verified.{Verified}
-use Rattle.shift_search.specs.declared.shift_or.TheConstants.{FIRST}
+use Rattle.shift_search.specs.declared.shift_or.TheConstants.{UNPROBED}
 
 -- the state of a search for ends after `from`: none lies before the eight positions, each among them has its bit, no
 -- bit stands for a position up to `from`, and `carried` rules out ends at the next eight positions
@@ -23,7 +23,7 @@ pub record AreProbes (b : Bucketing) (text : List ℕ) (from : ℕ) (probes : Pr
 
 -- the state of a search after a position, or after the start of the text that is searched without probes
 abbrev pub AreProbesAfter : Bucketing → List ℕ → ℕ → Probes → Type 0
-AreProbesAfter b text from probes = AreProbes b text (max from FIRST) probes
+AreProbesAfter b text from probes = AreProbes b text (max from UNPROBED) probes
 
 -- the first end after a position, with the first literal that ends there and the state of a search after it
 pub record IsVerified (b : Bucketing) (text : List ℕ) (from : ℕ) (found : Verified) : Type 0 where

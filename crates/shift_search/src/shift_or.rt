@@ -12,7 +12,7 @@ ghost use Rattle.lit_base.specs.NextEnds.{Finds, NoEndUpTo};
 ghost use Rattle.shift_search.specs.ShiftOr.{AreEntriesOf, NoneOf, RulesOut, RulesOutWords};
 ghost use Rattle.shift_search.specs.Probes.{AreProbes, AreProbesAfter, FindsVerified, IsPassed};
 ghost use Rattle.shift_search.specs.declared.blocks.TheConstants.{GROUP, GROUPS};
-ghost use Rattle.shift_search.specs.declared.shift_or.TheConstants.{FIRST};
+ghost use Rattle.shift_search.specs.declared.shift_or.TheConstants.{UNPROBED};
 
 use crate::blocks::{GROUP, GROUPS, note_words, probe_block};
 use crate::bucket_checks::{BucketChecks, CHECK_BITS};
@@ -33,7 +33,7 @@ use text_ends::EndRate;
 
 /// Bytes at the start of a text that are searched without probes. Before the first end after them, eight positions can
 /// be probed, each with eight bytes before it.
-const FIRST: usize = 15;
+const UNPROBED: usize = 15;
 
 /// The distance of the positions that a search probes.
 #[derive(Clone, Copy, Debug)]
@@ -160,7 +160,7 @@ impl ShiftOr {
     pub(crate) fn probes_after(&self, text: &[u8], from: usize) -> Probes
         ensures { AreProbesAfter self.now text.now from result }
     {
-        let start = from.max(FIRST);
+        let start = from.max(UNPROBED);
         let at = start - (PLACES - 1);
         let carried = if start > text.len() {
             0
@@ -205,10 +205,10 @@ impl ShiftOr {
         ensures probes { IfSome result (λ found. AreProbesAfter self.now text.now found.0 probes.new) }
         ensures over { IfNone result (probes.new ≡ probes.old) }
     {
-        if let Some(found) = self.first_between(text, from, text.len().min(FIRST)) {
+        if let Some(found) = self.first_between(text, from, text.len().min(UNPROBED)) {
             return Some(found);
         }
-        let found = self.next_after(text, from.max(FIRST), *probes, false_positives)?;
+        let found = self.next_after(text, from.max(UNPROBED), *probes, false_positives)?;
         *probes = found.probes;
         Some((found.end, found.first))
     }
@@ -222,7 +222,7 @@ impl ShiftOr {
         probes: Probes,
         false_positives: &mut usize,
     ) -> Option<Verified>
-        requires first { FIRST ≤ start }
+        requires first { UNPROBED ≤ start }
         requires probes { AreProbes self.now text.now start probes }
         ensures { FindsVerified self.now text.now start (length text.now) result }
     {
@@ -407,7 +407,7 @@ impl ShiftOr {
     /// As `next_after`, without probes.
     #[inline(never)]
     fn next_unprobed(&self, text: &[u8], from: usize) -> Option<Verified>
-        requires { FIRST ≤ from }
+        requires { UNPROBED ≤ from }
         ensures { FindsVerified self.now text.now from (length text.now) result }
     {
         let (end, first) = self.first_between(text, from, text.len())?;

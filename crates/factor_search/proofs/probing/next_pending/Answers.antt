@@ -8,12 +8,12 @@ use Rattle.factor_search.proofs.PendingSteps.{none_further, none_passes, passes,
 use Rattle.text_ends.proofs.Bytes.{all_bytes}
 use Rattle.factor_search.proofs.probing.next_pending.Goals as goal
 
-pub returns-then-seen-lt-FIRST-clause-none : goal.returns-then-seen-lt-FIRST-clause-none
-returns-then-seen-lt-FIRST-clause-none c = λ from ahead first end later within here. absurd (omega (arith, ahead, later, within))
+pub returns-then-seen-lt-UNFILTERED-clause-none : goal.returns-then-seen-lt-UNFILTERED-clause-none
+returns-then-seen-lt-UNFILTERED-clause-none c = λ from ahead first end later within here. absurd (omega (arith, ahead, later, within))
 
 pub blocks-2-init : goal.blocks-2-init
 blocks-2-init c = record {
-  prefix = omega (arith, c.if-seen-lt-FIRST.false);
+  prefix = omega (arith, c.if-seen-lt-UNFILTERED.false);
   ahead = omega arith;
   inside = omega (arith, c.requires);
   none = λ from ahead first end later within here. absurd (omega (arith, ahead, later, within));
