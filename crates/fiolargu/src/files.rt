@@ -2,7 +2,9 @@
 ghost use Rattle.std.specs.Prelude.{◌≡◌, ◌≤◌, ◌<◌, ◌⊎◌, ◌↔◌, List, [], ◌∷◌, IfErr, IfOk, IfSome, None, Some, drop, length, take};
 ghost use Rattle.std.specs.List.{slice_get};
 ghost use Rattle.lit_plan.specs.Plans.{Plan};
-ghost use Rattle.plan_file.specs.Spelling.{IsFile, spelling};
+ghost use Rattle.plan_file.specs.FirstFaults.{IsFirstFault};
+ghost use Rattle.plan_file.specs.Spelling.{AnnouncesPlans, IsFile, spelling};
+ghost use Rattle.plan_file.specs.declared.fault.Cause.{Cause};
 ghost use Rattle.plan_file.specs.declared.version.Version.TheVariants.{Two};
 ghost use Rattle.fiolargu.specs.Files.{FaultIn, PlanIn, PlansIn};
 ghost use Rattle.fiolargu.specs.Found.{plan_of};
@@ -24,11 +26,14 @@ fn plans_of(alloc: Global, file: &[u8]) -> Result<Vec<Compiled>, (i32, usize)>
     ensures found { IfOk result (λ plans. IsFile file.now plans.items) }
     ensures refused { IfErr result (λ r. ((r.0 ≡ OUT_OF_MEMORY) × (r.1 ≡ 0)) ⊎ ((r.0 ≡ BAD_PLAN_FILE) × FaultIn file.now r.1)) }
     ensures right { (plans : List Plan) → IsFile file.now plans → IfErr result (λ r. r.0 ≡ OUT_OF_MEMORY) }
+    ensures starved { IfErr result (λ r. r.0 ≡ OUT_OF_MEMORY → AnnouncesPlans file.now) }
 {
     match plan_file::decode(alloc, file) {
         Ok(plans) => Ok(plans),
         Err(Fault::BadPlanFile { place, .. }) => Err((BAD_PLAN_FILE, place)),
-        Err(_) => Err((OUT_OF_MEMORY, 0)),
+        Err(Fault::OutOfMemory) => Err((OUT_OF_MEMORY, 0)),
+        Err(Fault::ReadFault) => unreachable!(),
+        Err(Fault::WriteFault) => unreachable!(),
     }
 }
 
@@ -38,7 +43,8 @@ fn plans_of(alloc: Global, file: &[u8]) -> Result<Vec<Compiled>, (i32, usize)>
 /// - `BAD_PLAN_FILE`, where the bytes are no plan file, or a certificate in it does not hold. Then `fault_at` is the
 /// offset of the first fault; otherwise it is 0.
 /// - `NO_SUCH_PLAN`, where the file has at most `which` plans.
-/// - `OUT_OF_MEMORY`, where a growth was refused.
+/// - `OUT_OF_MEMORY`, where a growth was refused. It comes only if the bytes begin with the head of a file that has
+/// plans.
 #[unsafe(no_mangle)]
 pub extern "C" fn fiolargu_plan_load(
     alloc: Global,
@@ -53,6 +59,7 @@ pub extern "C" fn fiolargu_plan_load(
     ensures right { (plans : List Plan) → IsFile file.now plans → result ≡ BAD_PLAN_FILE → ⊥ }
     ensures same { (result ≡ OK → ⊥) → plan.new.held ≡ plan.old.held }
     ensures none { (result ≡ BAD_PLAN_FILE → ⊥) → fault_at.new ≡ 0 }
+    ensures starved { result ≡ OUT_OF_MEMORY → AnnouncesPlans file.now }
     ensures refused { (result ≡ OK) ⊎ ((result ≡ BAD_PLAN_FILE) ⊎ ((result ≡ NO_SUCH_PLAN) ⊎ (result ≡ OUT_OF_MEMORY))) }
 {
     *fault_at = 0;
@@ -136,7 +143,8 @@ fn save(alloc: Global, plan: &Compiled, buffer: &mut [u8], len: &mut usize) -> i
 /// # Errors
 /// - `BAD_PLAN_FILE`, where the bytes are no plan file, or a certificate in it does not hold. Then `fault_at` is the
 /// offset of the first fault; otherwise it is 0.
-/// - `OUT_OF_MEMORY`, where a growth was refused.
+/// - `OUT_OF_MEMORY`, where a growth was refused. It comes only if the bytes begin with the head of a file that has
+/// plans.
 #[unsafe(no_mangle)]
 pub extern "C" fn fiolargu_check(
     alloc: Global,
@@ -149,6 +157,7 @@ pub extern "C" fn fiolargu_check(
     ensures right { (plans : List Plan) → IsFile file.now plans → result ≡ BAD_PLAN_FILE → ⊥ }
     ensures none { (result ≡ OK → ⊥) → plans.new ≡ 0 }
     ensures no_fault { (result ≡ BAD_PLAN_FILE → ⊥) → fault_at.new ≡ 0 }
+    ensures starved { result ≡ OUT_OF_MEMORY → AnnouncesPlans file.now }
     ensures refused { (result ≡ OK) ⊎ ((result ≡ BAD_PLAN_FILE) ⊎ (result ≡ OUT_OF_MEMORY)) }
 {
     *plans = 0;

@@ -12,7 +12,7 @@ use Rattle.plan_file.specs.declared.version.Version.{Version}
 use Rattle.plan_file.specs.Faults.{IfWrong}
 use Rattle.plan_file.specs.FirstFaults.{AreEntries, IsWrong, IsWrongAfter, IsWrongEntry, IsWrongNext}
 use Rattle.plan_file.specs.Reading.{head_at, plan_at, wrong_at}
-use Rattle.plan_file.specs.Spelling.{head_text, plan_text, IsFile, IsPlan}
+use Rattle.plan_file.specs.Spelling.{head_text, plan_text, AnnouncesPlans, IsFile, IsPlan}
 use Rattle.plan_file.proofs.EntryParts.{entry_bad}
 use Rattle.plan_file.proofs.FieldLemmas.{AreBytes}
 use Rattle.plan_file.proofs.Parts.{head_bad}
@@ -73,6 +73,17 @@ whole version count text rest plans bytes head are =
         spelled = h.0 ∙ ap (λ (t : List ℕ). head_text version count ++ t) are.text_is ∙ ap (λ (k : ℕ). head_text version k ++ flat_map plan_text plans) (sym are.count_is);
       };
     }
+
+-- a head that says some number of plans announces them
+pub announced : (version : Version) (count : ℕ) (text rest : List ℕ) → AreBytes text → head_at text ≡ Ok ((version, count), rest) → 0 < count → AnnouncesPlans text
+announced version count text rest bytes head some =
+    let h = head_read text ((version, count), rest) bytes head in
+    record { version = version; count = count; some = some; few = h.1; rest = rest; text_is = h.0 }
+
+-- and so does a file that has plans
+pub file_announces : (text : List ℕ) (plans : List Plan) → IsFile text plans → 0 < length plans → AnnouncesPlans text
+file_announces text plans f some =
+    record { version = f.version; count = length plans; some = some; few = f.file.are.few; rest = flat_map plan_text plans; text_is = f.file.spelled }
 
 -- a fault after the head is a fault of the text
 pub wrong_after : (version : Version) (count : ℕ) (text rest : List ℕ) (e : Stop) → AreBytes text → head_at text ≡ Ok ((version, count), rest) → IfWrong (IsWrongAfter version count rest) e → IfWrong (IsWrong text) e

@@ -88,6 +88,15 @@ pub record ArePlans (version : Version) (plans : List Plan) : Type 0 where
   pub few : length plans ≤ 64
   pub each : All (IsPlan version) plans
 
+-- the text begins with the head of a file that has plans
+pub record AnnouncesPlans (text : List ℕ) : Type 0 where
+  pub version : Version
+  pub count : ℕ
+  pub some : 0 < count
+  pub few : count ≤ 64
+  pub rest : List ℕ
+  pub text_is : text ≡ head_text version count ++ rest
+
 -- the text is a file of the version, and these are its plans
 pub record IsFileOf (version : Version) (text : List ℕ) (plans : List Plan) : Type 0 where
   pub are : ArePlans version plans

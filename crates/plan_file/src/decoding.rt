@@ -1,11 +1,11 @@
 //! Plans read back from a text that is held whole.
-ghost use Rattle.std.specs.Prelude.{◌≡◌, ◌≢◌, ℕ, ◌≤◌, ◌++◌, List, length, take, IfErr, IsOkUnless, IfOk, IsOkAnd};
+ghost use Rattle.std.specs.Prelude.{◌≡◌, ◌≢◌, ℕ, ◌<◌, ◌≤◌, ◌++◌, List, length, take, IfErr, IsOkUnless, IfOk, IsOkAnd};
 ghost use Rattle.lit_plan.specs.Plans.{Plan};
 ghost use Rattle.plan_file.specs.declared.fault.Cause.{Cause};
 ghost use Rattle.plan_file.specs.Faults.{Gives, IfBadFile, IfWrong};
 ghost use Rattle.plan_file.specs.FirstFaults.{AreEntries, IsFirstFault, IsWrong, IsWrongAfter, IsWrongEntry};
 ghost use Rattle.plan_file.specs.Reading.{head_at, plan_at};
-ghost use Rattle.plan_file.specs.Spelling.{BeginsDraft, BeginsFile, IsFile, IsPlan, plan_text};
+ghost use Rattle.plan_file.specs.Spelling.{AnnouncesPlans, BeginsDraft, BeginsFile, IsFile, IsPlan, plan_text};
 
 use crate::certificates::first_certificate;
 use crate::encoding::encode;
@@ -20,10 +20,11 @@ use lit_base::LitList;
 use lit_cert::Certificate;
 use std::alloc::Global;
 
-/// The version and the number of plans in the head at the start, and the bytes after it.
+/// The version and the number of plans in the head at the start, and the bytes after it. It takes no memory.
 #[tactic(auto, unfolding(crate::specs::Reading::head_at))]
 fn head_of(bytes: &[u8]) -> Result<(Version, u16, &[u8]), Stop>
-    ensures { Gives (λ x. ((x.0, x.1), x.2.now)) result (head_at bytes.now) }
+    ensures head { Gives (λ x. ((x.0, x.1), x.2.now)) result (head_at bytes.now) }
+    ensures not_starved { result ≢ Err Stop.OutOfMemory }
 {
     let (magic, rest) = first_u32(bytes)?;
     if magic != MAGIC {
@@ -82,6 +83,7 @@ fn plans_of(
 ) -> Result<Vec<Compiled>, Stop>
     ensures found { IfOk result (λ plans. AreEntries version count bytes.now plans.items) }
     ensures wrong { IfErr result (IfWrong (IsWrongAfter version count bytes.now)) }
+    ensures starved { result ≡ Err Stop.OutOfMemory → 0 < count }
 {
     let mut plans = Vec::new(alloc);
     let mut rest = bytes;
@@ -100,6 +102,7 @@ fn plans_of(
 fn all_plans(alloc: Global, bytes: &[u8]) -> Result<Vec<Compiled>, Stop>
     ensures found { IfOk result (λ plans. IsFile bytes.now plans.items) }
     ensures wrong { IfErr result (IfWrong (IsWrong bytes.now)) }
+    ensures starved { result ≡ Err Stop.OutOfMemory → AnnouncesPlans bytes.now }
 {
     let (version, count, rest) = head_of(bytes)?;
     plans_of(alloc, version, count, rest)
@@ -109,7 +112,8 @@ fn all_plans(alloc: Global, bytes: &[u8]) -> Result<Vec<Compiled>, Stop>
 ///
 /// # Errors
 /// - `BadPlanFile` with the first cause in reading order, and the place of its field.
-/// - `OutOfMemory`, where a growth was refused. A number in the file costs no memory before its bytes are there.
+/// - `OutOfMemory`, where a growth was refused. It comes only if the bytes begin with the head of a file that has
+/// plans. A number in the file costs no memory before its bytes are there.
 pub fn decode(alloc: Global, bytes: &[u8]) -> Result<Vec<Compiled>, Fault>
     // A text that is read is a file of the plans returned.
     ensures found { IfOk result (λ plans. IsFile bytes.now plans.items) }
@@ -121,6 +125,8 @@ pub fn decode(alloc: Global, bytes: &[u8]) -> Result<Vec<Compiled>, Fault>
     ensures wrong { IfErr result (IfBadFile (IsFirstFault bytes.now)) }
     ensures exact { (place : ℕ) (cause : Cause) → IsFirstFault bytes.now place cause →
         result ≢ Err Fault.OutOfMemory → result ≡ Err (Fault.BadPlanFile place cause) }
+    // Bytes that announce no plans take no memory.
+    ensures starved { result ≡ Err Fault.OutOfMemory → AnnouncesPlans bytes.now }
 {
     match all_plans(alloc, bytes) {
         Ok(plans) => Ok(plans),

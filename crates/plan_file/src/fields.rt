@@ -1,5 +1,6 @@
 //! Fields of a plan file, each read from the start of the remaining bytes. A field that is not whole is an error with
 //! the cause `Short`.
+ghost use Rattle.std.specs.Prelude.{◌≡◌, ◌≢◌};
 ghost use Rattle.std.specs.Int.{w16, w32, w64};
 ghost use Rattle.plan_file.specs.Faults.{Gives};
 ghost use Rattle.plan_file.specs.Reading.{byte_at, bytes_at, number_at};
@@ -18,7 +19,8 @@ pub fn first_byte(bytes: &[u8]) -> Result<(u8, &[u8]), Stop>
 
 /// The number in two bytes at the start, and the bytes after it.
 pub fn first_u16(bytes: &[u8]) -> Result<(u16, &[u8]), Stop>
-    ensures { Gives (λ x. (x.0, x.1.now)) result (number_at w16 bytes.now) }
+    ensures number { Gives (λ x. (x.0, x.1.now)) result (number_at w16 bytes.now) }
+    ensures not_starved { result ≢ Err Stop.OutOfMemory }
 {
     match bytes.split_first_chunk::<2>() {
         None => Err(stop_at(bytes, Cause::Short)),
@@ -28,7 +30,8 @@ pub fn first_u16(bytes: &[u8]) -> Result<(u16, &[u8]), Stop>
 
 /// The number in four bytes at the start, and the bytes after it.
 pub fn first_u32(bytes: &[u8]) -> Result<(u32, &[u8]), Stop>
-    ensures { Gives (λ x. (x.0, x.1.now)) result (number_at w32 bytes.now) }
+    ensures number { Gives (λ x. (x.0, x.1.now)) result (number_at w32 bytes.now) }
+    ensures not_starved { result ≢ Err Stop.OutOfMemory }
 {
     match bytes.split_first_chunk::<4>() {
         None => Err(stop_at(bytes, Cause::Short)),

@@ -1,5 +1,5 @@
--- A plan file is refused only for want of memory.
-use Rattle.std.proofs.Common.{◌≡◌, ℕ, Result, Err}
+-- A plan file is refused only for want of memory, and memory runs out only where plans are announced.
+use Rattle.std.proofs.Common.{◌≡◌, ℕ, Result, Err, ap}
 use Rattle.std.specs.Global.{Vec}
 use Rattle.lit_plan.specs.declared.compiled.Compiled.{Compiled}
 use Rattle.plan_file.specs.declared.fault.Cause.{Cause}
@@ -19,3 +19,9 @@ never_memory {fault} {place} {cause} is same = let both : BadPlanFile place caus
 pub returns-in-Err-BadPlanFile-clause-right : goal.returns-in-Err-BadPlanFile-clause-right
 returns-in-Err-BadPlanFile-clause-right c =
     λ plans file. absurd (c.in-Err-BadPlanFile.ensures.only plans file (never_memory c.in-Err-BadPlanFile.field-0-is))
+
+pub returns-in-Err-BadPlanFile-clause-starved : goal.returns-in-Err-BadPlanFile-clause-starved
+returns-in-Err-BadPlanFile-clause-starved c = λ is. absurd cc
+
+pub returns-in-Err-OutOfMemory-clause-starved : goal.returns-in-Err-OutOfMemory-clause-starved
+returns-in-Err-OutOfMemory-clause-starved c = λ _. c.in-Err-OutOfMemory.ensures.starved (ap refused c.in-Err-OutOfMemory.field-0-is)

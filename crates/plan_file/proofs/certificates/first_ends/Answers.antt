@@ -10,13 +10,13 @@ pub returns-in_err-end : goal.returns-in_err-end
 returns-in_err-end c =
     let p = err_from_is_err_and c.from_residual.result c.from_residual.ensures.1 in
     rw (p.1, p.2) (stops (number_at w16 c.loop.rest.now) (numbers_at w16 c.args.count c.args.bytes.now) c.in_err-end.field-0.0
-    (λ wrong is. sym c.loop.invariant.left ∙ numbers_stop w16 c.loop.ends.items c.args.count c.loop.counter c.loop.rest.now wrong c.loop-test.true is) c.in_err-end.ensures)
+    (λ wrong is. sym c.loop.invariant.left ∙ numbers_stop w16 c.loop.ends.items c.args.count c.loop.counter c.loop.rest.now wrong c.loop-test.true is) c.in_err-end.ensures.number)
 
 pub loop-preserved : goal.loop-preserved
 loop-preserved c =
     let n = c.in_ok-end.end in record {
       number = omega (arith, ap length c.push.ensures.items, length-append c.loop.ends.items (n ∷ []), c.loop.invariant.number);
-      left = rw c.push.ensures.items (sym (numbers_more w16 c.loop.ends.items c.args.count c.loop.counter c.loop.rest.now n c.in_ok-end.after.now c.loop-test.true c.in_ok-end.ensures) ∙ c.loop.invariant.left);
+      left = rw c.push.ensures.items (sym (numbers_more w16 c.loop.ends.items c.args.count c.loop.counter c.loop.rest.now n c.in_ok-end.after.now c.loop-test.true c.in_ok-end.ensures.number) ∙ c.loop.invariant.left);
     }
 
 pub returns : goal.returns
