@@ -1,8 +1,8 @@
 -- A plan file that is made: from the plans to the file of them.
-use Rattle.std.proofs.Common.{◌≡◌, ℕ, true, cond, List, [], ◌∷◌, ◌++◌, Option, None, Some, Ok, Err, inl, inr, ◌-◌, ◌<◌, ◌≤◌, arith, drop, get_or, length, take, refl, sym, ap, subst, ◌∙◌, append_assoc, append-nil, take_all}
+use Rattle.std.proofs.Common.{◌≡◌, ℕ, true, cond, List, [], ◌∷◌, ◌++◌, IfErr, MatchOption, Option, None, Some, Result, Ok, Err, inl, inr, ◌-◌, ◌<◌, ◌≤◌, arith, drop, get_or, length, take, refl, sym, ap, subst, ◌∙◌, append_assoc, append-nil, take_all}
 use Rattle.std.specs.Prelude.{String, map, string_bytes}
 use Rattle.byte_io.specs.Devices.{IfKnown}
-use Rattle.byte_io.specs.Sources.{AreShort, Ask, Created, Named, Sources, Standard, after, ask_of, can_create, taken_by}
+use Rattle.byte_io.specs.Sources.{AreShort, Ask, Content, Created, Named, Sources, Standard, after, ask_of, can_create, taken_by}
 use Rattle.byte_io.proofs.OpenerLemmas.{short-after}
 use Rattle.byte_io.proofs.KnownLemmas.{IfKnown-none, IfKnown-then, IfKnown-weaker}
 use Rattle.lit_plan.specs.Plans.{Plan}
@@ -10,10 +10,10 @@ use Rattle.plan_pack.specs.Asking.{Asks, asks_for_plans, pack_asks, reads_file}
 use Rattle.lit_base.specs.declared.profile.Profile.{Profile}
 use Rattle.plan_pack.specs.Lists.{IsPlanOf, first_message, list_in, search_message, search_messages}
 use Rattle.plan_pack.specs.Messages.{unusable}
-use Rattle.plan_pack.specs.Packing.{Made, MakesFile, MakesPack, Own, PacksFiles, answer_of}
+use Rattle.plan_pack.specs.Packing.{Made, MakesFile, MakesPack, NamesPack, Own, PacksFiles, StaysEmpty, answer_of}
 use Rattle.plan_pack.specs.PlanFiles.{HoldsPrefix, HoldsPlans}
 use Rattle.plan_pack.specs.Stops.{Explains}
-use Rattle.plan_pack.specs.Taken.{TakesPlan}
+use Rattle.plan_pack.specs.Taken.{NamesStop, TakesPlan}
 use Rattle.plan_pack.specs.declared.notation.Reading.{Reading}
 use Rattle.plan_pack.specs.declared.stop.Stop.{Stop}
 use Rattle.plan_pack.specs.declared.stop.Stop.TheVariants.{OutOfMemory, Refused, WriteFault}
@@ -159,3 +159,81 @@ pack-own {O} written reading profile names output known stop own why =
       subst (λ b. Asks {T = O} (Err stop) (cond b [] (asks_for_plans reading names (Created output) s)) s s) (sym own) (asks-all {T = O} (Err stop) [] s s refl),
       Own stop own why refl refl,
     ))
+
+-- ---- which line was refused
+
+-- none, where the stop names no line
+names-none-refused : (reading : Reading) (names : List (List ℕ)) (s : Sources) (stop : Stop) → ((source : Option Content) → NamesStop reading source stop) → NamesPack reading names s stop
+names-none-refused reading [] s stop any = tt
+names-none-refused reading (name ∷ names) s stop any =
+    elim (search_message reading name (taken_by (ask_of name) s)) as (λ m. MatchOption m (NamesPack reading names (after (ask_of name) s) stop) (λ message. NamesStop reading (taken_by (ask_of name) s) stop)) [
+      | None ↦ names-none-refused reading names (after (ask_of name) s) stop any
+      | Some message ↦ any (taken_by (ask_of name) s)
+    ]
+
+-- one of a later file, where the first gives a plan
+names-later : (reading : Reading) (file : List ℕ) (names : List (List ℕ)) (s : Sources) (stop : Stop) → search_message reading file (taken_by (ask_of file) s) ≡ None
+    → NamesPack reading names (after (ask_of file) s) stop → NamesPack reading (file ∷ names) s stop
+names-later reading file names s stop none later =
+    subst (λ (m : Option (List ℕ)). MatchOption m (NamesPack reading names (after (ask_of file) s) stop) (λ message. NamesStop reading (taken_by (ask_of file) s) stop)) (sym none) later
+
+-- one of the first file, where that gives none
+names-here : (reading : Reading) (file : List ℕ) (names : List (List ℕ)) (s : Sources) (stop : Stop) → Explains stop (search_message reading file (taken_by (ask_of file) s))
+    → NamesStop reading (taken_by (ask_of file) s) stop → NamesPack reading (file ∷ names) s stop
+names-here reading file names s (Refused refusal) e here =
+    subst (λ (m : Option (List ℕ)). MatchOption m (NamesPack reading names (after (ask_of file) s) (Refused refusal)) (λ message. NamesStop reading (taken_by (ask_of file) s) (Refused refusal))) (sym e) here
+names-here reading file names s WriteFault e here = absurd e
+names-here reading file names s OutOfMemory e here = names-none-refused reading (file ∷ names) s OutOfMemory (λ source. tt)
+
+-- of no file but the plan file
+pub pack-named-own : (reading : Reading) (names : List (List ℕ)) (known : Option Sources) (stop : Stop) → ((source : Option Content) → NamesStop reading source stop)
+    → IfKnown known known (λ s l. AreShort s → NamesPack reading names s stop)
+pack-named-own reading names known stop any = IfKnown-none known (λ s l. AreShort s → NamesPack reading names s stop) (λ s short. names-none-refused reading names s stop any)
+
+-- behind the last file
+pub pack-named-made : {O : Type 0} (reading : Reading) (names : List (List ℕ)) (known left : Option Sources) (P : Sources → Sources → Type 0) (r : Made O) → names ≡ [] → IfKnown known left P
+    → IfErr r (λ stopped. IfKnown known left (λ s l. AreShort s → NamesPack reading names s stopped.0))
+pack-named-made reading names known left P (Ok made) none makes = tt
+pack-named-made reading names known left P (Err stopped) none makes =
+    IfKnown-weaker known left P (λ s l. AreShort s → NamesPack reading names s stopped.0) makes (λ s l p short. subst (λ (ns : List (List ℕ)). NamesPack reading ns s stopped.0) (sym none) tt)
+
+-- behind a file that gives a plan
+pub pack-named-next : {O : Type 0} (reading : Reading) (profile : Profile) (all : List (List ℕ)) (file : List ℕ) (names : List (List ℕ)) (known mid left : Option Sources) (plan : Plan) (r : Made O)
+    → all ≡ file ∷ names
+    → IfKnown known mid (λ s m. AreShort s → (m ≡ after (ask_of file) s) × TakesPlan reading profile file (taken_by (ask_of file) s) (Ok plan))
+    → IfErr r (λ stopped. IfKnown mid left (λ m l. AreShort m → NamesPack reading names m stopped.0))
+    → IfErr r (λ stopped. IfKnown known left (λ s l. AreShort s → NamesPack reading all s stopped.0))
+pack-named-next reading profile all file names known mid left plan (Ok made) same reads named = tt
+pack-named-next reading profile all file names known mid left plan (Err stopped) same reads named =
+    IfKnown-then known mid left _ _ (λ s l. AreShort s → NamesPack reading all s stopped.0) reads named (λ s m l h g short.
+    let taken = h short in
+    let later = g (subst AreShort (sym taken.0) (short-after (ask_of file) s short)) in
+    subst (λ (ns : List (List ℕ)). NamesPack reading ns s stopped.0) (sym same)
+    (names-later reading file names s stopped.0 taken.1.0 (subst (λ (x : Sources). NamesPack reading names x stopped.0) taken.0 later)))
+
+-- at a file that gives none
+pub pack-named-stopped : (reading : Reading) (profile : Profile) (all : List (List ℕ)) (file : List ℕ) (names : List (List ℕ)) (known mid : Option Sources) (stop : Stop)
+    → all ≡ file ∷ names
+    → IfKnown known mid (λ s left. AreShort s → (left ≡ after (ask_of file) s) × TakesPlan reading profile file (taken_by (ask_of file) s) (Err stop))
+    → IfKnown known mid (λ s left. AreShort s → NamesStop reading (taken_by (ask_of file) s) stop)
+    → IfKnown known mid (λ s left. AreShort s → NamesPack reading all s stop)
+pack-named-stopped reading profile all file names None mid stop same reads named = tt
+pack-named-stopped reading profile all file names (Some s) None stop same reads named = absurd reads
+pack-named-stopped reading profile all file names (Some s) (Some m) stop same reads named = λ short.
+    subst (λ (ns : List (List ℕ)). NamesPack reading ns s stop) (sym same) (names-here reading file names s stop (reads short).1 (named short))
+
+-- where memory ran out
+pub pack-named-starved : (reading : Reading) (names : List (List ℕ)) (known mid : Option Sources) (P : Sources → Sources → Type 0) → IfKnown known mid P
+    → IfKnown known mid (λ s left. AreShort s → NamesPack reading names s OutOfMemory)
+pack-named-starved reading names known mid P reads =
+    IfKnown-weaker known mid P (λ s left. AreShort s → NamesPack reading names s OutOfMemory) reads (λ s left p short. names-none-refused reading names s OutOfMemory (λ source. tt))
+
+-- ---- a file that stays empty
+
+-- one that does from some ask on does from those before it on
+pub stays-empty : {T O : Type 0} (written : O → Option (List ℕ)) (known mid left : Option Sources) (P : Sources → Sources → Type 0) (r : Result T (Stop × Option O)) → IfKnown known mid P
+    → StaysEmpty written mid left r → StaysEmpty written known left r
+stays-empty written known mid left P (Ok made) reads stays = tt
+stays-empty written known mid left P (Err (stop, None)) reads stays = λ memory. tt
+stays-empty written known mid left P (Err (stop, Some made)) reads stays = λ memory.
+    IfKnown-then known mid left P (λ s l. written made ≡ Some []) (λ s l. written made ≡ Some []) reads (stays memory) (λ s m l p empty. empty)

@@ -1,19 +1,22 @@
 -- Making a plan file: what is left of it where that stops.
-use Rattle.std.specs.Prelude.{◌≡◌, ◌⊎◌, ℕ, Bool, true, false, List, [], ◌∷◌, ◌++◌, Option, Some, None, Result, Ok, Err}
+use Rattle.std.specs.Prelude.{◌≡◌, ◌⊎◌, ℕ, Bool, true, false, List, [], ◌∷◌, ◌++◌, ⊤, IfErr, IfSome, MatchOption, Option, Some, None, Result, Ok, Err}
 use Rattle.std.specs.Io.KnownBytes.{Appends}
-use Rattle.byte_io.specs.Sources.{Sources, after, ask_of, can_create}
+use Rattle.byte_io.specs.Devices.{IfKnown}
+use Rattle.byte_io.specs.Sources.{Sources, after, ask_of, can_create, taken_by}
 use Rattle.byte_io.specs.Transfers.{AppendsPart}
 use Rattle.lit_plan.specs.Plans.{Plan}
 use Rattle.plan_pack.specs.Asking.{reads_file}
 use Rattle.lit_base.specs.declared.profile.Profile.{Profile}
 use Rattle.plan_file.specs.Spelling.{ArePlans, spelling}
 use Rattle.plan_file.specs.declared.version.Version.TheVariants.{Two}
-use Rattle.plan_pack.specs.Lists.{ArePlansOf, first_message, search_messages}
+use Rattle.plan_pack.specs.Lists.{ArePlansOf, first_message, search_message, search_messages}
 use Rattle.plan_pack.specs.Messages.{unusable}
 use Rattle.plan_pack.specs.PlanFiles.{HoldsPrefix, HoldsPlans}
 use Rattle.plan_pack.specs.Stops.{Explains}
+use Rattle.plan_pack.specs.Taken.{NamesStop}
 use Rattle.plan_pack.specs.declared.notation.Reading.{Reading}
 use Rattle.plan_pack.specs.declared.stop.Stop.{Stop}
+use Rattle.plan_pack.specs.declared.stop.Stop.TheVariants.{OutOfMemory}
 
 -- a device was given the plan file of plans, in version 2; or a prefix of it, and not all, where a write to the file of
 -- this name failed or memory ran out
@@ -40,6 +43,11 @@ LeavesFile written plans can None = can ≡ false
 abbrev pub MakesFile : {O : Type 0} → (O → Option (List ℕ)) → List Plan → List ℕ → Bool → Made O → Type 0
 MakesFile written plans name can (Ok made) = (can ≡ true) × HoldsPlans plans (written made)
 MakesFile written plans name can (Err stopped) = Explains stopped.0 (Some (unusable name)) × LeavesFile written plans can stopped.1
+
+-- where memory ran out, nothing was written to a file that was made, if the files are known
+abbrev pub StaysEmpty : {T O : Type 0} → (O → Option (List ℕ)) → Option Sources → Option Sources → Result T (Stop × Option O) → Type 0
+StaysEmpty written known left r =
+    IfErr r (λ stopped. stopped.0 ≡ OutOfMemory → IfSome stopped.1 (λ made. IfKnown known left (λ s l. written made ≡ Some [])))
 
 -- ---- from files of patterns
 
@@ -75,6 +83,13 @@ MakesPack written reading profile before names output s left (Ok made) =
 MakesPack written reading profile before names output s left (Err stopped) =
     Explains stopped.0 (first_message (search_messages reading names s) (Some (unusable output)))
     × LeavesPack written reading profile before names output s left stopped.0 stopped.1
+
+-- where patterns were refused, the refusal is that of the first line that is refused, of the first file that gives no plan
+abbrev pub NamesPack : Reading → List (List ℕ) → Sources → Stop → Type 0
+NamesPack reading [] s stop = ⊤
+NamesPack reading (name ∷ names) s stop =
+    MatchOption (search_message reading name (taken_by (ask_of name) s)) (NamesPack reading names (after (ask_of name) s) stop)
+    (λ message. NamesStop reading (taken_by (ask_of name) s) stop)
 
 -- a plan file was made of the plans of the files alone, unless it is one of these files: then nothing is asked for
 pub data PacksFiles {O : Type 0} (written : O → Option (List ℕ)) (reading : Reading) (profile : Profile) (names : List (List ℕ)) (output : List ℕ) (s left : Sources) (r : Made O) : Type 0 where

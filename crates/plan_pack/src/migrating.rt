@@ -5,7 +5,7 @@ ghost use Rattle.byte_io.specs.Sources.{AreShort, Created};
 ghost use Rattle.plan_pack.specs.Asking.{Asks, LeavesMigrate, UnlessStarved, migrate_asks};
 ghost use Rattle.plan_pack.specs.Migrated.{AreMigrated, IsMigrated, migrated_line, migrated_lines};
 ghost use Rattle.plan_pack.specs.Migrating.{MakesMigrated, Migrates};
-ghost use Rattle.plan_pack.specs.Packing.{answer_of};
+ghost use Rattle.plan_pack.specs.Packing.{StaysEmpty, answer_of};
 ghost use Rattle.plan_pack.specs.Stops.{is_refusal, is_write};
 
 use crate::fault::Fault;
@@ -26,8 +26,8 @@ use std::alloc::{AllocError, Global};
 /// to its end.
 /// - `OutOfMemory`, where a growth was refused.
 ///
-/// With them comes the file that was made, if one was. It holds a prefix of the plan file, and not all of it. A write
-/// to it failed exactly where its name is refused.
+/// With them comes the file that was made, if one was. It holds a prefix of the plan file, and not all of it; after
+/// `OutOfMemory` nothing. A write to it failed exactly where its name is refused.
 pub fn migrate_file<'a, F: Files>(
     alloc: Global,
     input: &'a str,
@@ -42,6 +42,7 @@ pub fn migrate_file<'a, F: Files>(
     // refused.
     ensures flag { IfOk result (λ done. F.Output.has_failed done.1 ≡ false) }
     ensures broken { IfErr result (λ stopped. IfSome stopped.1 (λ made. F.Output.has_failed made ≡ is_refusal stopped.0)) }
+    ensures starved { StaysEmpty F.Output.written (F.sources files.old) (F.sources files.new) result }
     ensures unwritten { IfErr result (λ stopped. is_write stopped.0 ≡ false) }
 {
     match plans_of(alloc, input, files) {
@@ -63,6 +64,7 @@ fn migrate_to<'a, F: Files>(
         × MakesMigrated F.Output.written plans.now name.now s left result) }
     ensures flag { IfOk result (λ done. F.Output.has_failed done.1 ≡ false) }
     ensures broken { IfErr result (λ stopped. IfSome stopped.1 (λ made. F.Output.has_failed made ≡ is_refusal stopped.0)) }
+    ensures starved { StaysEmpty F.Output.written (F.sources files.old) (F.sources files.new) result }
     ensures unwritten { IfErr result (λ stopped. is_write stopped.0 ≡ false) }
 {
     match migrate_with_lines(alloc, plans) {

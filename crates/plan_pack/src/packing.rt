@@ -3,7 +3,7 @@ ghost use Rattle.std.specs.Prelude.{◌≡◌, ◌≤◌, ◌+◌, ◌||◌, ◌
 ghost use Rattle.byte_io.specs.Devices.{IfKnown};
 ghost use Rattle.byte_io.specs.Sources.{AreShort, Created, after, can_create};
 ghost use Rattle.plan_pack.specs.Asking.{Asks, asks_for_plans, is_file, pack_asks, reads_file};
-ghost use Rattle.plan_pack.specs.Packing.{MakesFile, MakesPack, Packs, PacksFiles, answer_of};
+ghost use Rattle.plan_pack.specs.Packing.{MakesFile, MakesPack, NamesPack, Packs, PacksFiles, StaysEmpty, answer_of};
 ghost use Rattle.plan_pack.specs.Stops.{is_refusal, is_refused, is_write};
 ghost use Rattle.plan_pack.specs.declared.stop.Stop.{Stop};
 
@@ -37,7 +37,7 @@ pub fn stop_of<O: Drop>(unmade: Unmade<'_, O>) -> Stop<'_>
 /// - `OutOfMemory`, where a growth was refused.
 ///
 /// Beside them stands the file that was made, if one was: it holds a prefix of the plan file, and not all of
-/// it, and a write to it failed exactly where its name is refused.
+/// it, and a write to it failed exactly where its name is refused. After `OutOfMemory` it is empty.
 pub fn pack<'a, F: Files>(
     alloc: Global,
     reading: Reading,
@@ -51,10 +51,15 @@ pub fn pack<'a, F: Files>(
         → Asks (answer_of result) (pack_asks reading (map string_bytes names.now) output.now s) s left
         × PacksFiles F.Output.written reading profile (map string_bytes names.now) output.now s left result) }
 
+    // Where patterns are refused, the refusal names one of the first file that gives no plan.
+    ensures named { IfErr result (λ stopped. IfKnown (F.sources files.old) (F.sources files.new) (λ s left. AreShort s
+        → NamesPack reading (map string_bytes names.now) s stopped.0)) }
+
     // Whatever is known of the files, no write failed to a file that is returned, and one did to a file that is
     // refused.
     ensures flag { IfOk result (λ made. F.Output.has_failed made ≡ false) }
     ensures broken { IfErr result (λ stopped. IfSome stopped.1 (λ made. F.Output.has_failed made ≡ is_refusal stopped.0)) }
+    ensures starved { StaysEmpty F.Output.written (F.sources files.old) (F.sources files.new) result }
     ensures unwritten { IfErr result (λ stopped. is_write stopped.0 ≡ false) }
 {
     if reads_file(names, output) {
@@ -106,8 +111,11 @@ fn pack_with<'a, F: Files>(
     ensures packed { IfKnown (F.sources files.old) (F.sources files.new) (λ s left. AreShort s
         → Asks (answer_of result) (asks_for_plans reading (map string_bytes names.now) (Created output.now) s) s left
         × MakesPack F.Output.written reading profile plans.items (map string_bytes names.now) output.now s left result) }
+    ensures named { IfErr result (λ stopped. IfKnown (F.sources files.old) (F.sources files.new) (λ s left. AreShort s
+        → NamesPack reading (map string_bytes names.now) s stopped.0)) }
     ensures flag { IfOk result (λ made. F.Output.has_failed made ≡ false) }
     ensures broken { IfErr result (λ stopped. IfSome stopped.1 (λ made. F.Output.has_failed made ≡ is_refusal stopped.0)) }
+    ensures starved { StaysEmpty F.Output.written (F.sources files.old) (F.sources files.new) result }
     ensures unwritten { IfErr result (λ stopped. is_write stopped.0 ≡ false) }
 {
     match names {
@@ -145,6 +153,7 @@ pub fn make<'a, F: Files>(
         × MakesFile F.Output.written plans.now name.now (can_create name.now s.creatable) result) }
     ensures flag { IfOk result (λ made. F.Output.has_failed made ≡ false) }
     ensures broken { IfErr result (λ stopped. IfSome stopped.1 (λ made. F.Output.has_failed made ≡ is_refusal stopped.0)) }
+    ensures starved { StaysEmpty F.Output.written (F.sources files.old) (F.sources files.new) result }
     ensures unwritten { IfErr result (λ stopped. is_write stopped.0 ≡ false) }
 {
     match files.create_named(name) {

@@ -1,5 +1,6 @@
 -- The plans of the file are migrated, or there are none.
 use Rattle.plan_pack.proofs.MigrateLemmas.{migrate-had, migrate-stopped}
+use Rattle.plan_pack.proofs.PackLemmas.{stays-empty}
 use Rattle.plan_pack.proofs.migrating.migrate_file.Goals as goal
 
 pub returns-in-Ok-clause-migrated : goal.returns-in-Ok-clause-migrated
@@ -9,3 +10,7 @@ returns-in-Ok-clause-migrated g c =
 
 pub returns-in-Err-clause-migrated : goal.returns-in-Err-clause-migrated
 returns-in-Err-clause-migrated g c = migrate-stopped g.F.Output.ByteOut.written c.args.input.now c.args.output.now _ _ c.in-Err.stop c.in-Err.ensures.plans
+
+pub returns-in-Ok-clause-starved : goal.returns-in-Ok-clause-starved
+returns-in-Ok-clause-starved g c =
+    stays-empty g.F.Output.ByteOut.written (g.F.Opener.sources c.args.files.now) (g.F.Opener.sources c.plans_of.new.files) (g.F.Opener.sources c.migrate_to.new.files) _ c.migrate_to.result c.in-Ok.ensures.plans c.migrate_to.ensures.starved

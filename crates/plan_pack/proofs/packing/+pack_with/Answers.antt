@@ -5,7 +5,7 @@ use Rattle.byte_io.specs.Sources.{AreShort, Created}
 use Rattle.plan_pack.specs.Asking.{Asks, asks_for_plans}
 use Rattle.plan_pack.specs.Packing.{MakesPack, answer_of}
 use Rattle.plan_pack.specs.declared.stop.Stop.TheVariants.{OutOfMemory}
-use Rattle.plan_pack.proofs.PackLemmas.{names-first, names-none, pack-made, pack-next, pack-starved, pack-stopped, packs-of}
+use Rattle.plan_pack.proofs.PackLemmas.{names-first, names-none, pack-made, pack-named-made, pack-named-next, pack-named-starved, pack-named-stopped, pack-next, pack-starved, pack-stopped, packs-of, stays-empty}
 use Rattle.plan_pack.proofs.packing.+pack_with.Goals as goal
 
 pub returns-in-empty-clause-packed : goal.returns-in-empty-clause-packed
@@ -39,3 +39,28 @@ returns-clause-packed g t c =
     packs-of g.F.Output.ByteOut.written c.args.reading c.args.profile c.args.plans.items _ _ c.args.output.now _ _ (Err (c.in-Err.stop, None))
     (names-first names c.name-item.result _ c.as_str.result.now c.in-len1-up.len_at_least c.name-item.is c.as_str.ensures.value)
     (pack-stopped g.F.Output.ByteOut.written c.args.reading c.args.profile c.args.plans.items c.as_str.result.now (map string_bytes (take (length names - 1) (drop 1 names))) c.args.output.now _ _ c.in-Err.stop c.in-Err.ensures.plan)
+
+pub returns-in-empty-clause-named : goal.returns-in-empty-clause-named
+returns-in-empty-clause-named g t c =
+    pack-named-made c.args.reading _ (g.F.Opener.sources c.args.files.now) (g.F.Opener.sources c.make.new.files) _ c.make.result (names-none c.args.names.now c.in-empty.len_below) c.make.ensures.made
+
+pub returns-in-Ok-with_plan-clause-named : goal.returns-in-Ok-with_plan-clause-named
+returns-in-Ok-with_plan-clause-named g t c =
+    let names = c.args.names.now in
+    let rest : List (List ℕ) = map string_bytes (take (length names - 1) (drop 1 names)) in
+    pack-named-next c.args.reading c.args.profile _ c.as_str.result.now rest (g.F.Opener.sources c.args.files.now) (g.F.Opener.sources c.plan_of.new.files) (g.F.Opener.sources c.pack_with.new.files) c.in-Ok.plan c.pack_with.result
+    (names-first names c.name-item.result _ c.as_str.result.now c.in-len1-up.len_at_least c.name-item.is c.as_str.ensures.value) c.in-Ok.ensures.plan c.pack_with.ensures.named
+
+pub returns-in-Ok-clause-named : goal.returns-in-Ok-clause-named
+returns-in-Ok-clause-named g t c =
+    pack-named-starved c.args.reading (map string_bytes c.args.names.now) (g.F.Opener.sources c.args.files.now) (g.F.Opener.sources c.plan_of.new.files) _ c.in-Ok.ensures.plan
+
+pub returns-clause-named : goal.returns-clause-named
+returns-clause-named g t c =
+    let names = c.args.names.now in
+    pack-named-stopped c.args.reading c.args.profile _ c.as_str.result.now (map string_bytes (take (length names - 1) (drop 1 names))) (g.F.Opener.sources c.args.files.now) (g.F.Opener.sources c.plan_of.new.files) c.in-Err.stop
+    (names-first names c.name-item.result _ c.as_str.result.now c.in-len1-up.len_at_least c.name-item.is c.as_str.ensures.value) c.in-Err.ensures.plan c.in-Err.ensures.named
+
+pub returns-in-Ok-with_plan-clause-starved : goal.returns-in-Ok-with_plan-clause-starved
+returns-in-Ok-with_plan-clause-starved g t c =
+    stays-empty g.F.Output.ByteOut.written (g.F.Opener.sources c.args.files.now) (g.F.Opener.sources c.plan_of.new.files) (g.F.Opener.sources c.pack_with.new.files) _ c.pack_with.result c.in-Ok.ensures.plan c.pack_with.ensures.starved
