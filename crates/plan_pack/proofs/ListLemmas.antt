@@ -1,8 +1,8 @@
 -- The refusal of a list: none where all is within its limits.
-use Rattle.std.proofs.Common.{◌≡◌, ◌⊎◌, ℕ, List, IfErr, Option, None, Some, Ok, Err, Result, inl, inr, ap, refl, subst, sym}
+use Rattle.std.proofs.Common.{◌≡◌, ◌≢◌, ◌⊎◌, ℕ, true, false, List, IfErr, IfSome, Option, None, Some, Ok, Err, Result, inl, inr, ap, refl, subst, sym}
 use Rattle.std.specs.List.{AllZip}
-use Rattle.byte_io.specs.Devices.{IfKnown}
-use Rattle.byte_io.specs.Sources.{AreShort, Sources, after, ask_of, taken_by}
+use Rattle.byte_io.specs.Devices.{Coming, IfKnown}
+use Rattle.byte_io.specs.Sources.{AreShort, Content, OpensAs, Sources, after, ask_of, taken_by}
 use Rattle.byte_io.proofs.KnownLemmas.{IfKnown-weaker}
 use Rattle.lit_base.specs.Faults.{RefusedBy}
 use Rattle.lit_base.specs.Literals.{Literals}
@@ -11,7 +11,7 @@ use Rattle.lit_base.specs.declared.fault.Fault.{Fault}
 use Rattle.lit_base.specs.declared.fold.Fold.{Fold}
 use Rattle.lit_base.specs.declared.lit_list.Normal.{Normal}
 use Rattle.plan_pack.specs.Lists.{ArePlaces}
-use Rattle.plan_pack.specs.Taken.{NamesStop, TakesList, TakesPlaces}
+use Rattle.plan_pack.specs.Taken.{IsThere, NamesStop, OpensFirst, TakesList, TakesPlaces}
 use Rattle.plan_pack.specs.declared.notation.Reading.{Reading}
 use Rattle.plan_pack.specs.declared.stop.Refusal.TheVariants.{NoLiterals}
 use Rattle.plan_pack.specs.declared.stop.Stop.{Stop}
@@ -54,3 +54,21 @@ none-named reading file known mid P (Err stop) (inl is) reads =
     IfKnown-weaker known mid P (λ s left. AreShort s → NamesStop reading (taken_by (ask_of file) s) stop) reads (λ s left h short. subst (NamesStop reading (taken_by (ask_of file) s)) (sym is) tt)
 none-named reading file known mid P (Err stop) (inr is) reads =
     IfKnown-weaker known mid P (λ s left. AreShort s → NamesStop reading (taken_by (ask_of file) s) stop) reads (λ s left h short. subst (NamesStop reading (taken_by (ask_of file) s)) (sym is) tt)
+
+-- what was opened can be opened
+opens-some : {I : Type 0} (f : I → Option Coming) (input : I) (source : Option Content) → OpensAs {I = I} f source (Ok input) → source ≢ None
+opens-some f input None opens = λ none. (let bad : false ≡ true = opens in (cc))
+opens-some f input (Some c) opens = λ none. (cc)
+
+is-there : {I : Type 0} (f : I → Option Coming) (input : I) (known : Option Sources) (name : List ℕ) → IfSome known (λ s. OpensAs {I = I} f (taken_by (ask_of name) s) (Ok input)) → IsThere known name
+is-there f input None name opens = tt
+is-there f input (Some s) name opens = opens-some f input (taken_by (ask_of name) s) opens
+
+-- so whatever came of it came behind that
+pub there-first : {T : Type 0} (known : Option Sources) (name : List ℕ) (r : Result T Stop) → IsThere known name → OpensFirst known name r
+there-first known name (Ok x) there = there
+there-first known name (Err stop) there = λ memory. there
+
+pub opened-first : {I T : Type 0} (f : I → Option Coming) (input : I) (known : Option Sources) (name : List ℕ) (r : Result T Stop)
+    → IfSome known (λ s. OpensAs {I = I} f (taken_by (ask_of name) s) (Ok input)) → OpensFirst known name r
+opened-first f input known name r opens = there-first known name r (is-there f input known name opens)

@@ -1,7 +1,7 @@
 -- What was read of a file: its list, its plan, its plans or its text; or why there is none.
-use Rattle.std.specs.Prelude.{◌≡◌, ◌↔◌, ℕ, List, [], Contains, IsTrue, ⊤, Option, None, Result, Ok, Err}
+use Rattle.std.specs.Prelude.{◌≡◌, ◌≢◌, ◌↔◌, ℕ, List, [], Contains, IfSome, IsTrue, MatchResult, ⊤, Option, None, Result, Ok, Err}
 use Rattle.std.specs.Global.{Vec}
-use Rattle.byte_io.specs.Sources.{Content}
+use Rattle.byte_io.specs.Sources.{Content, Sources, ask_of, taken_by}
 use Rattle.lit_plan.specs.Plans.{Plan}
 use Rattle.lit_base.specs.Literals.{Literals}
 use Rattle.plan_pack.specs.Lists.{ArePlaces, IsPlanOf, NamesRefused, input_message, list_in, list_message, patterns_in, plan_message, search_message, text_in}
@@ -12,6 +12,14 @@ use Rattle.plan_pack.specs.Stops.{Explains}
 use Rattle.plan_pack.specs.declared.notation.Reading.{Reading}
 use Rattle.plan_pack.specs.declared.stop.Stop.{Stop}
 use Rattle.plan_pack.specs.declared.stop.Stop.TheVariants.{OutOfMemory, Refused, WriteFault}
+
+-- if the files are known, what is asked for under this name can be opened
+abbrev pub IsThere : Option Sources → List ℕ → Type 0
+IsThere known name = IfSome known (λ s. taken_by (ask_of name) s ≢ None)
+
+-- something was read only of what can be opened, and memory ran out only behind it
+abbrev pub OpensFirst : {T : Type 0} → Option Sources → List ℕ → Result T Stop → Type 0
+OpensFirst known name r = MatchResult r (λ x. IsThere known name) (λ stop. stop ≡ OutOfMemory → IsThere known name)
 
 -- a file of patterns was read: its list, or why it has none
 abbrev pub TakesList : Reading → List ℕ → Option Content → Result Literals Stop → Type 0

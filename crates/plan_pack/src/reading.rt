@@ -5,7 +5,7 @@ ghost use Rattle.byte_io.specs.Sources.{AreShort, Content, IsShort, after, ask_o
 ghost use Rattle.plan_pack.specs.Lists.{ArePlaces, literals_of};
 ghost use Rattle.plan_pack.specs.Notations.{list_refusal, patterns_of};
 ghost use Rattle.plan_pack.specs.Stops.{is_write};
-ghost use Rattle.plan_pack.specs.Taken.{NamesStop, TakesList, TakesPlaces, TakesPlans, TakesText};
+ghost use Rattle.plan_pack.specs.Taken.{NamesStop, OpensFirst, TakesList, TakesPlaces, TakesPlans, TakesText};
 
 use crate::notation::Reading;
 use crate::patterns::{Unlisted, patterns_of};
@@ -22,7 +22,7 @@ use std::alloc::Global;
 /// - `Refused` with the file's name, where it cannot be opened or read; with the first line that should be hexadecimal
 /// and is not; or with the fault of the first pattern that is refused. A file longer than its notation allows is
 /// refused as `ListTooLarge`.
-/// - `OutOfMemory`, where a growth was refused.
+/// - `OutOfMemory`, where a growth was refused, once the file is open.
 pub fn list_of<'a, F: Files>(
     alloc: Global,
     reading: Reading,
@@ -35,6 +35,7 @@ pub fn list_of<'a, F: Files>(
     // Where patterns are refused, the refusal names one.
     ensures named { IfErr result (λ stop. IfKnown (F.sources files.old) (F.sources files.new) (λ s left. AreShort s
         → NamesStop reading (taken_by (ask_of file.now) s) stop)) }
+    ensures starved { OpensFirst (F.sources files.old) file.now result }
     ensures unwritten { IfErr result (λ stop. is_write stop ≡ false) }
 {
     match placed_list_of(alloc, reading, file, files) {
@@ -59,6 +60,7 @@ pub fn placed_list_of<'a, F: Files>(
     // Where patterns are refused, the refusal names one.
     ensures named { IfErr result (λ stop. IfKnown (F.sources files.old) (F.sources files.new) (λ s left. AreShort s
         → NamesStop reading (taken_by (ask_of file.now) s) stop)) }
+    ensures starved { OpensFirst (F.sources files.old) file.now result }
     ensures unwritten { IfErr result (λ stop. is_write stop ≡ false) }
 {
     match open_operand(files, file) {
@@ -112,7 +114,7 @@ fn listed(alloc: Global, reading: Reading, text: &[u8]) -> Result<(LitList, Norm
 /// # Errors
 /// - `Refused` with the file's name, where it cannot be opened or read; or with the first wrong field, where it is no
 /// plan file.
-/// - `OutOfMemory`, where a growth was refused.
+/// - `OutOfMemory`, where a growth was refused, once the file is open.
 pub fn plans_of<'a, F: Files>(
     alloc: Global,
     file: &'a str,
@@ -120,6 +122,7 @@ pub fn plans_of<'a, F: Files>(
 ) -> Result<Vec<Compiled>, Stop<'a>>
     ensures plans { IfKnown (F.sources files.old) (F.sources files.new) (λ s left. AreShort s
         → (left ≡ after (ask_of file.now) s) × TakesPlans file.now (taken_by (ask_of file.now) s) result) }
+    ensures starved { OpensFirst (F.sources files.old) file.now result }
     ensures few { IfOk result (λ plans. length plans.items ≤ 64) }
     ensures unwritten { IfErr result (λ stop. is_write stop ≡ false) }
 {
@@ -155,7 +158,7 @@ fn plans_from<'a, I: ByteIn>(
 ///
 /// # Errors
 /// - `Refused` with the operand, where it cannot be opened or read.
-/// - `OutOfMemory`, where a growth was refused.
+/// - `OutOfMemory`, where a growth was refused, once it is open.
 pub fn text_of<'a, F: Files>(
     alloc: Global,
     operand: &'a str,
@@ -163,6 +166,7 @@ pub fn text_of<'a, F: Files>(
 ) -> Result<Vec<u8>, Stop<'a>>
     ensures text { IfKnown (F.sources files.old) (F.sources files.new) (λ s left. AreShort s
         → (left ≡ after (ask_of operand.now) s) × TakesText operand.now (taken_by (ask_of operand.now) s) result) }
+    ensures starved { OpensFirst (F.sources files.old) operand.now result }
     ensures unwritten { IfErr result (λ stop. is_write stop ≡ false) }
 {
     match open_operand(files, operand) {
