@@ -79,9 +79,9 @@ certificate_head runs cost = codes "runs " ++ (decimal runs ++ (codes ", cost " 
 abbrev pub hit_line : ℕ × ℕ → List ℕ
 hit_line hit = decimal hit.0 ++ (codes " " ++ (decimal hit.1 ++ codes "\n"))
 
--- a hit with its literal, if there is one: where it starts, and the literal itself
+-- a hit with its literal: where it starts, and the literal itself; the hit alone where there is no literal
 abbrev pub literal_line : Option (List ℕ) → ℕ × ℕ → List ℕ
-literal_line None hit = []
+literal_line None hit = hit_line hit
 literal_line (Some literal) hit = decimal hit.0 ++ (codes " " ++ (decimal (hit.1 - length literal) ++ (codes " " ++ (whole literal ++ codes "\n"))))
 
 -- a hit of the list, with its literal where that is asked for

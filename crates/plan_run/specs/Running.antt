@@ -1,7 +1,7 @@
 -- How a run ends, against what a request has to answer.
 use Rattle.std.specs.Prelude.{◌≡◌, ℕ, Bool, true, false, List, [], ◌⊎◌, Option, Result, Ok, Err}
 use Rattle.std.specs.Io.KnownBytes.{Appends}
-use Rattle.byte_io.specs.Transfers.{AppendsPrefix, Says}
+use Rattle.byte_io.specs.Transfers.{AppendsPart, Says}
 use Rattle.byte_io.specs.Sources.{AsksPrefix, Sources}
 use Rattle.plan_pack.specs.Asking.{UnlessStarved}
 use Rattle.plan_pack.specs.Messages.{message_on}
@@ -27,12 +27,12 @@ SaysStop OutOfMemory has_failed old new = Says has_failed old new out_of_memory
 
 -- ---- the parts of a run
 
--- a text is written, and this is the status; or a prefix of it is
+-- a text is written, and this is the status; or a prefix of it is, and not all of it
 abbrev pub Writes : List ℕ → Status → Result Status Stop → Option (List ℕ) → Option (List ℕ) → Type 0
 Writes text status (Ok answered) old new = (answered ≡ status) × Appends old new text
 Writes text status (Err (Refused refusal)) old new = ⊥
-Writes text status (Err WriteFault) old new = AppendsPrefix old new text
-Writes text status (Err OutOfMemory) old new = AppendsPrefix old new text
+Writes text status (Err WriteFault) old new = AppendsPart old new text
+Writes text status (Err OutOfMemory) old new = AppendsPart old new text
 
 -- the run went to the end of an answer for which P holds, with this status
 pub record IsReported (P : Answer → Type 0) (status : Status) (out_old out_new : Option (List ℕ)) : Type 0 where
@@ -42,13 +42,13 @@ pub record IsReported (P : Answer → Type 0) (status : Status) (out_old out_new
   pub silent : answer.message ≡ []
   pub output : Appends out_old out_new answer.output
 
--- a prefix of the output of an answer for which P holds was written
+-- a prefix of the output of an answer for which P holds was written, and not all of it
 pub record IsPrefix (P : Answer → Type 0) (out_old out_new : Option (List ℕ)) : Type 0 where
   pub answer : Answer
   pub right : P answer
-  pub output : AppendsPrefix out_old out_new answer.output
+  pub output : AppendsPart out_old out_new answer.output
 
--- nothing was written, or a prefix of the output of an answer for which P holds
+-- nothing was written, or a prefix of the output of an answer for which P holds, and not all of it
 pub data IsUnfinished (P : Answer → Type 0) (out_old out_new : Option (List ℕ)) : Type 0 where
   Silent : Appends out_old out_new [] → IsUnfinished P out_old out_new
   Begun : IsPrefix P out_old out_new → IsUnfinished P out_old out_new

@@ -78,7 +78,7 @@ fn push_hits(
     Ok(())
 }
 
-/// Appends the line of a hit of a plan, with its literal or without.
+/// Appends the line of a hit of a plan, with its literal or without. A hit of another plan may have no literal.
 fn push_line(
     compiled: &Compiled,
     names: bool,
@@ -90,7 +90,7 @@ fn push_line(
     if names {
         match compiled.literal_of(hit) {
             Some(literal) => push_literal_line(literal, hit, text),
-            None => Ok(()),
+            None => push_hit(hit, text),
         }
     } else {
         push_hit(hit, text)

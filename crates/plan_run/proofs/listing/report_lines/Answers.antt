@@ -1,10 +1,17 @@
 -- The lines of a part follow those before it.
-use Rattle.std.proofs.Common.{◌≡◌, ◌++◌, ap, ◌∙◌, sym, append_assoc, rules}
+use Rattle.std.proofs.Common.{◌≡◌, ◌<◌, ◌++◌, length, Err, ap, ◌∙◌, sym, append_assoc, rules}
 use Rattle.std.proofs.lemmas.Result.{err_from_is_err_and}
+use Rattle.plan_pack.specs.declared.stop.Stop.TheVariants.{OutOfMemory}
 use Rattle.plan_run.specs.Messages.{hit_lines}
 use Rattle.plan_run.specs.declared.status.Status.TheVariants.{Done}
-use Rattle.plan_run.proofs.ListingLemmas.{stopped-more, wrote-more}
+use Rattle.plan_run.proofs.ListingLemmas.{starved-more, stopped-more, wrote-more}
 use Rattle.plan_run.proofs.listing.report_lines.Goals as goal
+
+pub returns-in_err-push_hits-clause-text : goal.returns-in_err-push_hits-clause-text
+returns-in_err-push_hits-clause-text g c =
+    let stopped : c.from_residual.result ≡ Err OutOfMemory = search rules in
+    let some : 0 < length c.loop-rest.rest.now = search rules in
+    starved-more c.args.names c.args.compiled.now.literals (g.W.ByteOut.written c.args.out.now) _ c.args.hits.now c.loop-rest.invariant.done c.loop-rest.rest.now Done c.from_residual.result stopped c.loop-rest.invariant.parts some c.loop-rest.invariant.written
 
 pub returns-in_err-report_bytes-clause-text : goal.returns-in_err-report_bytes-clause-text
 returns-in_err-report_bytes-clause-text g c =

@@ -1,6 +1,5 @@
 -- A write that fails leaves a prefix of the bytes.
-use Rattle.byte_io.proofs.SayLemmas.{prefix-part}
 use Rattle.plan_run.proofs.reporting.report_bytes.Goals as goal
 
 pub returns-in-Err-clause-text : goal.returns-in-Err-clause-text
-returns-in-Err-clause-text g c = prefix-part c.in-Err.ensures.err
+returns-in-Err-clause-text g c = c.in-Err.ensures.err
