@@ -84,7 +84,8 @@ MakesPack written reading profile before names output s left (Err stopped) =
     Explains stopped.0 (first_message (search_messages reading names s) (Some (unusable output)))
     × LeavesPack written reading profile before names output s left stopped.0 stopped.1
 
--- where patterns were refused, the refusal is that of the first line that is refused, of the first file that gives no plan
+-- where patterns were refused, the refusal is that of the first line that is refused, in the first file that gives no
+-- plan
 abbrev pub NamesPack : Reading → List (List ℕ) → Sources → Stop → Type 0
 NamesPack reading [] s stop = ⊤
 NamesPack reading (name ∷ names) s stop =
