@@ -101,7 +101,7 @@ plans-unread name known r c clean fault e short =
 
 -- what a stop leaves of it
 moved-left : {O : Type 0} (written : O → Option (List ℕ)) (old new : List Plan) (name : List ℕ) (s left : Sources) (stop : Stop) (begun : Option O) → AreMigrated old new
-    → LeavesFile written new (can_create name s.creatable) begun → LeavesMigrated written old name s left stop begun
+    → LeavesFile written new (can_create name s.creatable) stop begun → LeavesMigrated written old name s left stop begun
 moved-left written old new name s left stop (Some made) moved leaves = (leaves.0, new, moved, leaves.1)
 moved-left written old new name s left stop None moved leaves = inr leaves
 

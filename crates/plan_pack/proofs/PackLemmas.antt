@@ -12,7 +12,7 @@ use Rattle.plan_pack.specs.Lists.{IsPlanOf, first_message, list_in, search_messa
 use Rattle.plan_pack.specs.Messages.{unusable}
 use Rattle.plan_pack.specs.Packing.{Made, MakesFile, MakesPack, NamesPack, Own, PacksFiles, StaysEmpty, answer_of}
 use Rattle.plan_pack.specs.PlanFiles.{HoldsPrefix, HoldsPlans}
-use Rattle.plan_pack.specs.Stops.{Explains}
+use Rattle.plan_pack.specs.Stops.{Explains, is_refusal}
 use Rattle.plan_pack.specs.Taken.{NamesStop, TakesPlan}
 use Rattle.plan_pack.specs.declared.notation.Reading.{Reading}
 use Rattle.plan_pack.specs.declared.stop.Stop.{Stop}
@@ -87,7 +87,7 @@ packs-next written reading profile before file names output s left plan (Err (st
     let first : first_message (search_message reading file (taken_by (ask_of file) s)) (search_messages reading names (after (ask_of file) s)) ≡ search_messages reading names (after (ask_of file) s) =
     ap (λ m. first_message m (search_messages reading names (after (ask_of file) s))) none in (
       subst (λ m. Explains stop (first_message m (Some (unusable output)))) (sym first) why,
-      inr (ap (can_create output) (sym (same-creatable (ask_of file) s)) ∙ cannot),
+      inr (ap (can_create output) (sym (same-creatable (ask_of file) s)) ∙ cannot.0, cannot.1),
     )
 
 -- the plan file of patterns that have a plan
@@ -152,12 +152,12 @@ names-first (name ∷ rest) item default file some is same =
 -- ---- files of patterns, unless one of them is the plan file
 
 pub pack-own : {O : Type 0} (written : O → Option (List ℕ)) (reading : Reading) (profile : Profile) (names : List (List ℕ)) (output : List ℕ) (known : Option Sources) (stop : Stop)
-    → reads_file names output ≡ true → Explains stop (Some (unusable output))
+    → reads_file names output ≡ true → is_refusal stop ≡ true → Explains stop (Some (unusable output))
     → IfKnown known known (λ s l. AreShort s → Asks {T = O} (Err stop) (pack_asks reading names output s) s l × PacksFiles {O = O} written reading profile names output s l (Err (stop, None)))
-pack-own {O} written reading profile names output known stop own why =
+pack-own {O} written reading profile names output known stop own refused why =
     IfKnown-none known (λ s l. AreShort s → Asks {T = O} (Err stop) (pack_asks reading names output s) s l × PacksFiles {O = O} written reading profile names output s l (Err (stop, None))) (λ s short. (
       subst (λ b. Asks {T = O} (Err stop) (cond b [] (asks_for_plans reading names (Created output) s)) s s) (sym own) (asks-all {T = O} (Err stop) [] s s refl),
-      Own stop own why refl refl,
+      Own stop own refused why refl refl,
     ))
 
 -- ---- which line was refused

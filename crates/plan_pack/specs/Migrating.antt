@@ -6,7 +6,7 @@ use Rattle.lit_plan.specs.Plans.{Plan}
 use Rattle.plan_pack.specs.Messages.{unusable}
 use Rattle.plan_pack.specs.Migrated.{AreMigrated, IsSourceOf, migrated_lines}
 use Rattle.plan_pack.specs.PlanFiles.{HoldsPrefix, HoldsPlans}
-use Rattle.plan_pack.specs.Stops.{Explains}
+use Rattle.plan_pack.specs.Stops.{Explains, is_refusal}
 use Rattle.plan_pack.specs.Taken.{TakesPlans}
 use Rattle.plan_pack.specs.declared.stop.Stop.{Stop}
 use Rattle.plan_pack.specs.declared.stop.Stop.TheVariants.{OutOfMemory}
@@ -16,7 +16,7 @@ use Rattle.plan_pack.specs.declared.stop.Stop.TheVariants.{OutOfMemory}
 abbrev pub LeavesMigrated : {O : Type 0} → (O → Option (List ℕ)) → List Plan → List ℕ → Sources → Sources → Stop → Option O → Type 0
 LeavesMigrated written old name s left stop (Some made) =
     (can_create name s.creatable ≡ true) × (new : List Plan) × AreMigrated old new × HoldsPrefix new (written made)
-LeavesMigrated written old name s left stop None = ((left ≡ s) × (stop ≡ OutOfMemory)) ⊎ (can_create name s.creatable ≡ false)
+LeavesMigrated written old name s left stop None = ((left ≡ s) × (stop ≡ OutOfMemory)) ⊎ ((can_create name s.creatable ≡ false) × (is_refusal stop ≡ true))
 
 -- the answer where migrated plans were to be written: the lines that show them and the file; or a stop, with the file
 -- as far as it was made

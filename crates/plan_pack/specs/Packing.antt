@@ -12,7 +12,7 @@ use Rattle.plan_file.specs.declared.version.Version.TheVariants.{Two}
 use Rattle.plan_pack.specs.Lists.{ArePlansOf, first_message, search_message, search_messages}
 use Rattle.plan_pack.specs.Messages.{unusable}
 use Rattle.plan_pack.specs.PlanFiles.{HoldsPrefix, HoldsPlans}
-use Rattle.plan_pack.specs.Stops.{Explains}
+use Rattle.plan_pack.specs.Stops.{Explains, is_refusal}
 use Rattle.plan_pack.specs.Taken.{NamesStop}
 use Rattle.plan_pack.specs.declared.notation.Reading.{Reading}
 use Rattle.plan_pack.specs.declared.stop.Stop.{Stop}
@@ -33,16 +33,17 @@ abbrev pub answer_of : {T O : Type 0} → Result T (Stop × Option O) → Result
 answer_of (Ok made) = Ok made
 answer_of (Err stopped) = Err stopped.0
 
--- what a stop leaves of a file for plans: it was made, where it can be, and holds a prefix; or it cannot be made
-abbrev pub LeavesFile : {O : Type 0} → (O → Option (List ℕ)) → List Plan → Bool → Option O → Type 0
-LeavesFile written plans can (Some made) = (can ≡ true) × HoldsPrefix plans (written made)
-LeavesFile written plans can None = can ≡ false
+-- what a stop leaves of a file for plans: it was made, where it can be, and holds a prefix; or it cannot be made, which
+-- takes no memory to say
+abbrev pub LeavesFile : {O : Type 0} → (O → Option (List ℕ)) → List Plan → Bool → Stop → Option O → Type 0
+LeavesFile written plans can stop (Some made) = (can ≡ true) × HoldsPrefix plans (written made)
+LeavesFile written plans can stop None = (can ≡ false) × (is_refusal stop ≡ true)
 
 -- a file of this name was made, where it can be, and holds the plans; or the message, and the file as far as it was
 -- made
 abbrev pub MakesFile : {O : Type 0} → (O → Option (List ℕ)) → List Plan → List ℕ → Bool → Made O → Type 0
 MakesFile written plans name can (Ok made) = (can ≡ true) × HoldsPlans plans (written made)
-MakesFile written plans name can (Err stopped) = Explains stopped.0 (Some (unusable name)) × LeavesFile written plans can stopped.1
+MakesFile written plans name can (Err stopped) = Explains stopped.0 (Some (unusable name)) × LeavesFile written plans can stopped.0 stopped.1
 
 -- where memory ran out, nothing was written to a file that was made, if the files are known
 abbrev pub StaysEmpty : {T O : Type 0} → (O → Option (List ℕ)) → Option Sources → Option Sources → Result T (Stop × Option O) → Type 0
@@ -74,7 +75,7 @@ abbrev pub LeavesPack : {O : Type 0} → (O → Option (List ℕ)) → Reading �
 LeavesPack written reading profile before names output s left stop (Some made) =
     (search_messages reading names s ≡ None) × (can_create output s.creatable ≡ true) × HoldsPrefixOf reading profile before names s (written made)
 LeavesPack written reading profile before names output s left stop None =
-    (IsBefore names s left × Explains stop (search_messages reading names s)) ⊎ (can_create output s.creatable ≡ false)
+    (IsBefore names s left × Explains stop (search_messages reading names s)) ⊎ ((can_create output s.creatable ≡ false) × (is_refusal stop ≡ true))
 
 -- a plan file was made of these plans and of those of the files, or the first message
 abbrev pub MakesPack : {O : Type 0} → (O → Option (List ℕ)) → Reading → Profile → List Plan → List (List ℕ) → List ℕ → Sources → Sources → Made O → Type 0
@@ -92,8 +93,9 @@ NamesPack reading (name ∷ names) s stop =
     MatchOption (search_message reading name (taken_by (ask_of name) s)) (NamesPack reading names (after (ask_of name) s) stop)
     (λ message. NamesStop reading (taken_by (ask_of name) s) stop)
 
--- a plan file was made of the plans of the files alone, unless it is one of these files: then nothing is asked for
+-- a plan file was made of the plans of the files alone, unless it is one of these files: then nothing is asked for, and
+-- no memory is wanted
 pub data PacksFiles {O : Type 0} (written : O → Option (List ℕ)) (reading : Reading) (profile : Profile) (names : List (List ℕ)) (output : List ℕ) (s left : Sources) (r : Made O) : Type 0 where
-  Own : (stop : Stop) → reads_file names output ≡ true → Explains stop (Some (unusable output)) → left ≡ s → r ≡ Err (stop, None)
+  Own : (stop : Stop) → reads_file names output ≡ true → is_refusal stop ≡ true → Explains stop (Some (unusable output)) → left ≡ s → r ≡ Err (stop, None)
       → PacksFiles written reading profile names output s left r
   Other : reads_file names output ≡ false → MakesPack written reading profile [] names output s left r → PacksFiles written reading profile names output s left r

@@ -7,6 +7,7 @@ ghost use Rattle.plan_pack.specs.Migrated.{AreMigrated, IsMigrated, migrated_lin
 ghost use Rattle.plan_pack.specs.Migrating.{MakesMigrated, Migrates};
 ghost use Rattle.plan_pack.specs.Packing.{StaysEmpty, answer_of};
 ghost use Rattle.plan_pack.specs.Stops.{is_refusal, is_write};
+ghost use Rattle.plan_pack.specs.Taken.{OpensFirst};
 
 use crate::fault::Fault;
 use crate::packing::{Unmade, make};
@@ -24,7 +25,7 @@ use std::alloc::{AllocError, Global};
 /// # Errors
 /// - `Refused` with the fault of the first file; else with the other's name, where it cannot be made or not be written
 /// to its end.
-/// - `OutOfMemory`, where a growth was refused.
+/// - `OutOfMemory`, where a growth was refused, once the first file is open.
 ///
 /// With them comes the file that was made, if one was. It holds a prefix of the plan file, and not all of it; after
 /// `OutOfMemory` nothing. A write to it failed exactly where its name is refused.
@@ -37,6 +38,7 @@ pub fn migrate_file<'a, F: Files>(
     ensures migrated { IfKnown (F.sources files.old) (F.sources files.new) (λ s left. AreShort s
         → UnlessStarved (answer_of result) (LeavesMigrate input.now output.now s left) (migrate_asks input.now output.now) s left
         × Migrates F.Output.written input.now output.now s left result) }
+    ensures opens { OpensFirst (F.sources files.old) input.now (answer_of result) }
 
     // Whatever is known of the files, no write failed to a file that is returned, and one did to a file that is
     // refused.

@@ -74,7 +74,7 @@ reports-unmade written has_failed (Refused refusal) (Some made) input output s l
 reports-unmade written has_failed (Refused refusal) None input output s left known plans source e (inl kept) broken = absurd (cc)
 reports-unmade written has_failed (Refused refusal) None input output s left known plans source e (inr cannot) broken =
     let same : message_on refusal ≡ unusable output = (cc) in
-    (NotMade plans source (as-before input output s false cannot) (ap refused_with same), Appends-nil known)
+    (NotMade plans source (as-before input output s false cannot.0) (ap refused_with same), Appends-nil known)
 reports-unmade written has_failed WriteFault begun input output s left known plans source e leaves broken = absurd e
 reports-unmade written has_failed OutOfMemory begun input output s left known plans source e leaves broken = reports-silent (AnswersMigrate written has_failed input output s) known
 

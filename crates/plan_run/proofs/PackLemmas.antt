@@ -26,7 +26,7 @@ use Rattle.plan_run.proofs.AnswerLemmas.{asks-any, reports-reason, reports-silen
 reports-packed : {O : Type 0} (written : O → Option (List ℕ)) (has_failed : O → Bool) (reading : Reading) (profile : Profile) (names : List (List ℕ)) (output : List ℕ) (s left : Sources) (made : O) (out : Option (List ℕ))
     → has_failed made ≡ false → PacksFiles written reading profile names output s left (Ok made)
     → Reports (AnswersPack written has_failed reading profile names output s) (Ok Done) out out
-reports-packed written has_failed reading profile names output s left made out whole (Own stop own why same is) = absurd (cc)
+reports-packed written has_failed reading profile names output s left made out whole (Own stop own refused why same is) = absurd (cc)
 reports-packed written has_failed reading profile names output s left made out whole (Other other makes) =
     let answer = IsPackAnswer written has_failed (ArePlansOf reading profile names s) output (can_create output s.creatable) in
     let none : pack_message reading names output s ≡ None = ap (λ b. cond b (Some (unusable output)) (search_messages reading names s)) other ∙ makes.0 in
@@ -62,12 +62,12 @@ reports-cut written has_failed reading profile names output s left None (Refused
 reports-cut written has_failed reading profile names output s left None (Refused refusal) None out same why (inl kept) broken = absurd (cc)
 reports-cut written has_failed reading profile names output s left None (Refused refusal) None out same why (inr cannot) broken =
     let text : message_on refusal ≡ unusable output = (cc) in
-    (Unmade cannot (ap refused_with text), Appends-nil out)
+    (Unmade cannot.0 (ap refused_with text), Appends-nil out)
 
 reports-unpacked : {O : Type 0} (written : O → Option (List ℕ)) (has_failed : O → Bool) (reading : Reading) (profile : Profile) (names : List (List ℕ)) (output : List ℕ) (s left : Sources) (stopped : Stop × Option O) (out : Option (List ℕ))
     → IfSome stopped.1 (λ made. has_failed made ≡ is_refusal stopped.0) → PacksFiles written reading profile names output s left (Err stopped)
     → Reports (AnswersPack written has_failed reading profile names output s) (Err stopped.0) out out
-reports-unpacked written has_failed reading profile names output s left stopped out broken (Own stop own why same is) =
+reports-unpacked written has_failed reading profile names output s left stopped out broken (Own stop own refused why same is) =
     let stop_is : stop ≡ stopped.0 = (cc) in
     let message : pack_message reading names output s ≡ Some (unusable output) = ap (λ b. cond b (Some (unusable output)) (search_messages reading names s)) own in
     subst (λ x. Reports (AnswersPack written has_failed reading profile names output s) (Err x) out out) stop_is

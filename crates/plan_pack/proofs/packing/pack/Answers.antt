@@ -8,7 +8,7 @@ use Rattle.plan_pack.proofs.packing.pack.Goals as goal
 pub returns-then-reads_file-clause-packed : goal.returns-then-reads_file-clause-packed
 returns-then-reads_file-clause-packed g c =
     pack-own g.F.Output.ByteOut.written c.args.reading c.args.profile (map string_bytes c.args.names.now) c.args.output.now (g.F.Opener.sources c.args.files.now)
-    (Refused (Unusable c.args.output)) (sym c.reads_file.ensures ∙ c.if-reads_file.true) refl
+    (Refused (Unusable c.args.output)) (sym c.reads_file.ensures ∙ c.if-reads_file.true) refl refl
 
 pub returns-then-reads_file-clause-named : goal.returns-then-reads_file-clause-named
 returns-then-reads_file-clause-named g c =
