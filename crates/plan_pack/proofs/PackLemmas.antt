@@ -231,9 +231,10 @@ pack-named-starved reading names known mid P reads =
 -- ---- a file that stays empty
 
 -- one that does from some ask on does from those before it on
-pub stays-empty : {T O : Type 0} (written : O → Option (List ℕ)) (known mid left : Option Sources) (P : Sources → Sources → Type 0) (r : Result T (Stop × Option O)) → IfKnown known mid P
-    → StaysEmpty written mid left r → StaysEmpty written known left r
-stays-empty written known mid left P (Ok made) reads stays = tt
-stays-empty written known mid left P (Err (stop, None)) reads stays = λ memory. tt
-stays-empty written known mid left P (Err (stop, Some made)) reads stays = λ memory.
-    IfKnown-then known mid left P (λ s l. written made ≡ Some []) (λ s l. written made ≡ Some []) reads (stays memory) (λ s m l p empty. empty)
+pub stays-empty : {T O : Type 0} (written : O → Option (List ℕ)) (known mid : Option Sources) (P : Sources → Sources → Type 0) (r : Result T (Stop × Option O)) → IfKnown known mid P
+    → StaysEmpty written mid r → StaysEmpty written known r
+stays-empty written known mid P (Ok made) reads stays = tt
+stays-empty written known mid P (Err (stop, None)) reads stays = λ memory. tt
+stays-empty written None mid P (Err (stop, Some made)) reads stays = λ memory. tt
+stays-empty written (Some s) None P (Err (stop, Some made)) reads stays = absurd reads
+stays-empty written (Some s) (Some m) P (Err (stop, Some made)) reads stays = λ memory. stays memory

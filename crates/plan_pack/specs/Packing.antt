@@ -1,7 +1,6 @@
 -- Making a plan file: what is left of it where that stops.
 use Rattle.std.specs.Prelude.{◌≡◌, ◌⊎◌, ℕ, Bool, true, false, List, [], ◌∷◌, ◌++◌, ⊤, IfErr, IfSome, MatchOption, Option, Some, None, Result, Ok, Err}
 use Rattle.std.specs.Io.KnownBytes.{Appends}
-use Rattle.byte_io.specs.Devices.{IfKnown}
 use Rattle.byte_io.specs.Sources.{Sources, after, ask_of, can_create, taken_by}
 use Rattle.byte_io.specs.Transfers.{AppendsPart}
 use Rattle.lit_plan.specs.Plans.{Plan}
@@ -46,9 +45,9 @@ MakesFile written plans name can (Ok made) = (can ≡ true) × HoldsPlans plans 
 MakesFile written plans name can (Err stopped) = Explains stopped.0 (Some (unusable name)) × LeavesFile written plans can stopped.0 stopped.1
 
 -- where memory ran out, nothing was written to a file that was made, if the files are known
-abbrev pub StaysEmpty : {T O : Type 0} → (O → Option (List ℕ)) → Option Sources → Option Sources → Result T (Stop × Option O) → Type 0
-StaysEmpty written known left r =
-    IfErr r (λ stopped. stopped.0 ≡ OutOfMemory → IfSome stopped.1 (λ made. IfKnown known left (λ s l. written made ≡ Some [])))
+abbrev pub StaysEmpty : {T O : Type 0} → (O → Option (List ℕ)) → Option Sources → Result T (Stop × Option O) → Type 0
+StaysEmpty written known r =
+    IfErr r (λ stopped. stopped.0 ≡ OutOfMemory → IfSome stopped.1 (λ made. IfSome known (λ s. written made ≡ Some [])))
 
 -- ---- from files of patterns
 

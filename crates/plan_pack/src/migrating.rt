@@ -44,7 +44,7 @@ pub fn migrate_file<'a, F: Files>(
     // refused.
     ensures flag { IfOk result (λ done. F.Output.has_failed done.1 ≡ false) }
     ensures broken { IfErr result (λ stopped. IfSome stopped.1 (λ made. F.Output.has_failed made ≡ is_refusal stopped.0)) }
-    ensures starved { StaysEmpty F.Output.written (F.sources files.old) (F.sources files.new) result }
+    ensures starved { StaysEmpty F.Output.written (F.sources files.old) result }
     ensures unwritten { IfErr result (λ stopped. is_write stopped.0 ≡ false) }
 {
     match plans_of(alloc, input, files) {
@@ -66,7 +66,7 @@ fn migrate_to<'a, F: Files>(
         × MakesMigrated F.Output.written plans.now name.now s left result) }
     ensures flag { IfOk result (λ done. F.Output.has_failed done.1 ≡ false) }
     ensures broken { IfErr result (λ stopped. IfSome stopped.1 (λ made. F.Output.has_failed made ≡ is_refusal stopped.0)) }
-    ensures starved { StaysEmpty F.Output.written (F.sources files.old) (F.sources files.new) result }
+    ensures starved { StaysEmpty F.Output.written (F.sources files.old) result }
     ensures unwritten { IfErr result (λ stopped. is_write stopped.0 ≡ false) }
 {
     match migrate_with_lines(alloc, plans) {

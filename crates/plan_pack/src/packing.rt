@@ -59,7 +59,7 @@ pub fn pack<'a, F: Files>(
     // refused.
     ensures flag { IfOk result (λ made. F.Output.has_failed made ≡ false) }
     ensures broken { IfErr result (λ stopped. IfSome stopped.1 (λ made. F.Output.has_failed made ≡ is_refusal stopped.0)) }
-    ensures starved { StaysEmpty F.Output.written (F.sources files.old) (F.sources files.new) result }
+    ensures starved { StaysEmpty F.Output.written (F.sources files.old) result }
     ensures unwritten { IfErr result (λ stopped. is_write stopped.0 ≡ false) }
 {
     if reads_file(names, output) {
@@ -115,7 +115,7 @@ fn pack_with<'a, F: Files>(
         → NamesPack reading (map string_bytes names.now) s stopped.0)) }
     ensures flag { IfOk result (λ made. F.Output.has_failed made ≡ false) }
     ensures broken { IfErr result (λ stopped. IfSome stopped.1 (λ made. F.Output.has_failed made ≡ is_refusal stopped.0)) }
-    ensures starved { StaysEmpty F.Output.written (F.sources files.old) (F.sources files.new) result }
+    ensures starved { StaysEmpty F.Output.written (F.sources files.old) result }
     ensures unwritten { IfErr result (λ stopped. is_write stopped.0 ≡ false) }
 {
     match names {
@@ -153,7 +153,7 @@ pub fn make<'a, F: Files>(
         × MakesFile F.Output.written plans.now name.now (can_create name.now s.creatable) result) }
     ensures flag { IfOk result (λ made. F.Output.has_failed made ≡ false) }
     ensures broken { IfErr result (λ stopped. IfSome stopped.1 (λ made. F.Output.has_failed made ≡ is_refusal stopped.0)) }
-    ensures starved { StaysEmpty F.Output.written (F.sources files.old) (F.sources files.new) result }
+    ensures starved { StaysEmpty F.Output.written (F.sources files.old) result }
     ensures unwritten { IfErr result (λ stopped. is_write stopped.0 ≡ false) }
 {
     match files.create_named(name) {

@@ -15,7 +15,7 @@ returns-in-Err-clause-migrated g c = migrate-stopped g.F.Output.ByteOut.written 
 
 pub returns-in-Ok-clause-starved : goal.returns-in-Ok-clause-starved
 returns-in-Ok-clause-starved g c =
-    stays-empty g.F.Output.ByteOut.written (g.F.Opener.sources c.args.files.now) (g.F.Opener.sources c.plans_of.new.files) (g.F.Opener.sources c.migrate_to.new.files) _ c.migrate_to.result c.in-Ok.ensures.plans c.migrate_to.ensures.starved
+    stays-empty g.F.Output.ByteOut.written (g.F.Opener.sources c.args.files.now) (g.F.Opener.sources c.plans_of.new.files) _ c.migrate_to.result c.in-Ok.ensures.plans c.migrate_to.ensures.starved
 
 pub returns-in-Ok-clause-opens : goal.returns-in-Ok-clause-opens
 returns-in-Ok-clause-opens g c = there-first (g.F.Opener.sources c.args.files.now) c.args.input.now (answer_of c.migrate_to.result) c.in-Ok.ensures.starved

@@ -63,4 +63,4 @@ returns-clause-named g t c =
 
 pub returns-in-Ok-with_plan-clause-starved : goal.returns-in-Ok-with_plan-clause-starved
 returns-in-Ok-with_plan-clause-starved g t c =
-    stays-empty g.F.Output.ByteOut.written (g.F.Opener.sources c.args.files.now) (g.F.Opener.sources c.plan_of.new.files) (g.F.Opener.sources c.pack_with.new.files) _ c.pack_with.result c.in-Ok.ensures.plan c.pack_with.ensures.starved
+    stays-empty g.F.Output.ByteOut.written (g.F.Opener.sources c.args.files.now) (g.F.Opener.sources c.plan_of.new.files) _ c.pack_with.result c.in-Ok.ensures.plan c.pack_with.ensures.starved
