@@ -1,5 +1,5 @@
 -- Lines that are emitted one after another.
-use Rattle.std.proofs.Common.{◌≡◌, ◌≢◌, ℕ, suc, ◌+◌, Bool, true, false, cond, List, [], ◌∷◌, ◌++◌, length, Result, Ok, Err, IsOk, OnOk, OnErr, refl, sym, ap, ◌∙◌, subst, append_assoc, append-nil, arith, All}
+use Rattle.std.proofs.Common.{◌≡◌, ◌≢◌, ℕ, suc, ◌+◌, ◌<◌, Bool, true, false, cond, List, [], ◌∷◌, ◌++◌, length, Result, Ok, Err, IsOk, OnOk, OnErr, ◌⊎◌, inl, inr, refl, sym, ap, ◌∙◌, subst, append_assoc, append-nil, arith, All}
 use Rattle.std.proofs.lemmas.Bool.{false≢true}
 use Rattle.std.proofs.lemmas.List.{length-append}
 use Rattle.std.proofs.lemmas.List.Elements.{All-head, All-tail}
@@ -111,6 +111,12 @@ Emits-starved {takes = takes} {s = s} lines r e = subst (λ q. Emits takes s lin
 pub Emits-held : {S T : Type 0} {takes : S → ℕ → List ℕ → Result Next Fault → S → Type 0} {s t : S} {lines : List (ℕ × List ℕ)} (r : Result T Halt) → Emitted takes s lines (Ok More) t → OnErr r (r ≡ Err (Failed OutOfMemory)) → Emits takes s lines (answer_of r) t
 Emits-held (Ok x) h starved = Whole h
 Emits-held {takes = takes} {s = s} {t = t} {lines = lines} (Err halt) h starved = subst (λ q. Emits takes s lines (answer_of q) t) (sym starved) (Starved lines [] (sym (append-nil lines)) h)
+
+-- a growth is refused only for some bytes: where there are none, all lines are emitted
+pub Emitted-held : {S T : Type 0} {takes : S → ℕ → List ℕ → Result Next Fault → S → Type 0} {s t : S} {lines : List (ℕ × List ℕ)} {bytes : List ℕ} (r : Result T Halt) → Emitted takes s lines (Ok More) t → OnErr r (0 < length bytes) → bytes ≡ []
+    → Emitted takes s lines (answer_of r) t
+Emitted-held (Ok x) h some none = h
+Emitted-held (Err halt) h some none = absurd (omega (arith, some, ap length none))
 
 -- nor where the stream would become too long
 pub Emits-refused : {S T : Type 0} {takes : S → ℕ → List ℕ → Result Next Fault → S → Type 0} {s : S} (lines : List (ℕ × List ℕ)) (r : Result T Halt) → r ≡ Err (Failed StreamTooLong) → Emits takes s lines (answer_of r) s

@@ -74,6 +74,12 @@ impl Progress {
         ensures too_long { (result ≡ Err (Halt.Failed Fault.StreamTooLong))
             ↔ (2 ^ 64 ≤ self.old.bytes + length piece.now) }
         ensures idle { piece.now ≡ [] → IsOk result }
+
+        // Where nothing has to be held, only the sink may want memory.
+        ensures unkept { self.old.held.items ≡ [] → open_rest piece.now ≡ []
+            → self.old.bytes + length piece.now < 2 ^ 64
+            → Emitted (as_numbered self.old.is_numbered S.takes) sink.old
+            (numbered (picks search.old.matcher) self.old.lines (ended_lines piece.now)) (answer_of result) sink.new }
     {
         self.bytes = longer(self.bytes, piece)?;
         let is_fresh = self.held.is_empty();
@@ -221,6 +227,9 @@ impl Progress {
         ensures bytes { self.new.bytes ≡ self.old.bytes }
         ensures faults { result ≢ Err (Halt.Failed Fault.StreamTooLong) }
         ensures idle { text.now ≡ [] → IsOk result }
+        ensures unkept { open_rest text.now ≡ []
+            → Emitted (as_numbered self.old.is_numbered S.takes) sink.old
+            (numbered (picks search.old.matcher) self.old.lines (ended_lines text.now)) (answer_of result) sink.new }
     {
         // Read here, it is known to fit, and so is the number of lines.
         let _bytes = self.bytes;

@@ -1,6 +1,7 @@
 -- The first line of the held bytes and the piece, and the lines after it.
-use Rattle.std.proofs.Common.{◌≡◌, ◌+◌, ◌++◌, Result, Err, arith, sym, ap, ◌∙◌, subst}
+use Rattle.std.proofs.Common.{◌≡◌, ◌+◌, ◌++◌, Result, Err, arith, rules, length, sym, ap, ◌∙◌, subst, vec_len}
 use Rattle.std.specs.Option.{option_copied}
+use Rattle.std.proofs.lemmas.Bool.{eqb-false}
 use Rattle.std.proofs.lemmas.Result.{err_from_is_err_and, on_ok_weaker}
 use Rattle.lit_base.specs.Lines.{ended_lines, open_rest}
 use Rattle.lit_base.proofs.EndedLemmas.{ended_lines-none, open_rest-none}
@@ -77,3 +78,19 @@ returns-in_ok-end_line-in-Some-clause-lines g c =
     let cut = first-held held c.requires.sound.one c.in-Some.ensures in
     let count = count-first test 0 (held ++ c.args.piece.now) (held ++ c.in-Some.prefix.now) c.in-Some.after.now cut in
     on_ok_weaker c.take_lines-in-Some.result (λ e is. omega (arith, e (c.in_ok-end_line-in-Some.ensures.numbered ∙ is), count, c.in_ok-end_line-in-Some.ensures.lines)) c.take_lines-in-Some.ensures.lines
+
+pub returns-in_err-self-clause-unkept : goal.returns-in_err-self-clause-unkept
+returns-in_err-self-clause-unkept g c = λ held closed few. absurd (omega (arith, few, c.in_err-self.ensures.too_long))
+
+pub returns-then-is_fresh-clause-unkept : goal.returns-then-is_fresh-clause-unkept
+returns-then-is_fresh-clause-unkept g c = λ held closed few. c.take_lines.ensures.unkept closed
+
+-- elsewhere something is held
+pub returns-in-None-clause-unkept : goal.returns-in-None-clause-unkept
+returns-in-None-clause-unkept g c = λ held closed few. absurd (eqb-false (vec_len c.args.self.now.held) 0 (search rules) (c.args.self.now.held.ok.0 ∙ ap length held))
+
+pub returns-in_err-end_line-in-Some-clause-unkept : goal.returns-in_err-end_line-in-Some-clause-unkept
+returns-in_err-end_line-in-Some-clause-unkept g c = λ held closed few. absurd (eqb-false (vec_len c.args.self.now.held) 0 (search rules) (c.args.self.now.held.ok.0 ∙ ap length held))
+
+pub returns-in_ok-end_line-in-Some-clause-unkept : goal.returns-in_ok-end_line-in-Some-clause-unkept
+returns-in_ok-end_line-in-Some-clause-unkept g c = λ held closed few. absurd (eqb-false (vec_len c.args.self.now.held) 0 (search rules) (c.args.self.now.held.ok.0 ∙ ap length held))
