@@ -7,6 +7,8 @@ use Rattle.byte_io.specs.Transfers.{AppendsPart}
 use Rattle.scan_wire.specs.Frames.{FrameParts, frame_text, reply_frame, reply_text}
 use Rattle.scan_wire.specs.Messages.{ReplyParts}
 use Rattle.scan_wire.specs.Numbers.{u32_text}
+use Rattle.scan_serve.specs.declared.stop.Stop.{Stop}
+use Rattle.scan_serve.specs.declared.stop.Stop.TheVariants.{WriteFault, OutOfMemory}
 use Rattle.scan_serve.specs.Sending.{Sends, SendsPrefix, SendsLess}
 
 -- a text waits, and nothing is written
@@ -104,6 +106,16 @@ reply_some reply e = frame_some (reply_frame reply) e
   where
     frame_some : (f : FrameParts) → frame_text f ≢ []
     frame_some f e = omega (arith, ap length e, length-append (u32_text (5 + length f.payload)) (f.kind ∷ (u32_text f.stream ++ f.payload)))
+
+-- what fails at writes alone never wants memory
+pub no_starving : {T : Type 0} (r : Result T Stop) → OnErr r (r ≡ Err WriteFault) → r ≢ Err OutOfMemory
+no_starving (Ok x) stopped e = (cc)
+no_starving (Err stop) stopped e = (cc)
+
+-- what holds where a call failed, holds where it failed so
+pub err_holds : {T E P : Type 0} (r : Result T E) (error : E) → r ≡ Err error → OnErr r P → P
+err_holds (Ok x) error e p = absurd (cc)
+err_holds (Err other) error e p = p
 
 -- what holds where a call failed, said of more
 pub err_weaker : {T E P Q : Type 0} (r : Result T E) → (P → Q) → OnErr r P → OnErr r Q

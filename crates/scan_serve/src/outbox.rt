@@ -1,5 +1,6 @@
 //! Replies on their way.
-ghost use Rattle.std.specs.Prelude.{◌≡◌, ◌≢◌, ◌<◌, [], length, IsTrue, OnErr, OnOk};
+ghost use Rattle.std.specs.Prelude.{◌≡◌, ◌≢◌, ◌<◌, ◌++◌, [], length, IsTrue, OnErr, OnOk};
+ghost use Rattle.std.specs.Io.KnownBytes.{Appends};
 ghost use Rattle.scan_wire.specs.Frames.{FitsReply, IsBlock, reply_text};
 ghost use Rattle.scan_wire.specs.Messages.{Hits, reply_parts};
 ghost use Rattle.scan_serve.specs.Sending.{Sends, SendsLess};
@@ -40,13 +41,16 @@ impl Outbox {
 
     /// Adds a reply. Once `FULL` bytes or more wait, it writes all of them.
     ///
-    /// After an `Err` a prefix of all was written, never all, and the outbox is of no use any more.
+    /// After an `Err` a prefix of all was written, never all. Without memory nothing was, and the outbox is as before.
+    /// After a failed write all of it still waits.
     pub fn push<W: ByteOut>(&mut self, out: &mut W, reply: &Reply) -> Result<(), Stop>
         requires { FitsReply (reply_parts reply.now) }
         ensures ok { OnOk result (Sends (W.written out.old) (W.written out.new)
             self.old self.new (reply_text (reply_parts reply.now))) }
         ensures err { OnErr result (SendsLess (W.written out.old) (W.written out.new)
             self.old (reply_text (reply_parts reply.now))) }
+        ensures starved { result ≡ Err Stop.OutOfMemory → (self.new ≡ self.old) × (out.new ≡ out.old) }
+        ensures broken { result ≡ Err Stop.WriteFault → self.new ≡ self.old ++ reply_text (reply_parts reply.now) }
         ensures fault { result ≡ Err Stop.WriteFault → IsTrue (W.has_failed out.new) }
         ensures flag { result ≢ Err Stop.WriteFault → W.has_failed out.new ≡ W.has_failed out.old }
         ensures few { OnOk result (length self.new < 65536) }
@@ -59,7 +63,8 @@ impl Outbox {
 
     /// Adds a reply with these hits. Once `FULL` bytes or more wait, it writes all of them.
     ///
-    /// After an `Err` a prefix of all was written, never all, and the outbox is of no use any more.
+    /// After an `Err` a prefix of all was written, never all. Without memory nothing was, and the outbox is as before.
+    /// After a failed write all of it still waits.
     pub fn push_hits<W: ByteOut>(
         &mut self,
         out: &mut W,
@@ -71,6 +76,8 @@ impl Outbox {
             self.old self.new (reply_text (Hits stream hits.now))) }
         ensures err { OnErr result (SendsLess (W.written out.old) (W.written out.new)
             self.old (reply_text (Hits stream hits.now))) }
+        ensures starved { result ≡ Err Stop.OutOfMemory → (self.new ≡ self.old) × (out.new ≡ out.old) }
+        ensures broken { result ≡ Err Stop.WriteFault → self.new ≡ self.old ++ reply_text (Hits stream hits.now) }
         ensures fault { result ≡ Err Stop.WriteFault → IsTrue (W.has_failed out.new) }
         ensures flag { result ≢ Err Stop.WriteFault → W.has_failed out.new ≡ W.has_failed out.old }
         ensures few { OnOk result (length self.new < 65536) }
@@ -85,6 +92,7 @@ impl Outbox {
     fn flush_full<W: ByteOut>(&mut self, out: &mut W) -> Result<(), Stop>
         ensures ok { OnOk result (Sends (W.written out.old) (W.written out.new) self.old self.new []) }
         ensures err { OnErr result (SendsLess (W.written out.old) (W.written out.new) self.old []) }
+        ensures kept { OnErr result (self.new ≡ self.old) }
         ensures stopped { OnErr result (result ≡ Err Stop.WriteFault) }
         ensures fault { result ≡ Err Stop.WriteFault → IsTrue (W.has_failed out.new) }
         ensures flag { result ≢ Err Stop.WriteFault → W.has_failed out.new ≡ W.has_failed out.old }
@@ -98,11 +106,12 @@ impl Outbox {
 
     /// Writes all that waits.
     ///
-    /// After an `Err` a prefix of it was written, never all, and the outbox is of no use any more.
+    /// After an `Err` a prefix of it was written, never all, and all of it still waits.
     pub fn flush<W: ByteOut>(&mut self, out: &mut W) -> Result<(), Stop>
         ensures empty { OnOk result (self.new ≡ []) }
         ensures ok { OnOk result (Sends (W.written out.old) (W.written out.new) self.old self.new []) }
         ensures err { OnErr result (SendsLess (W.written out.old) (W.written out.new) self.old []) }
+        ensures kept { OnErr result (self.new ≡ self.old) }
         ensures stopped { OnErr result (result ≡ Err Stop.WriteFault) }
         ensures fault { result ≡ Err Stop.WriteFault → IsTrue (W.has_failed out.new) }
         ensures flag { result ≢ Err Stop.WriteFault → W.has_failed out.new ≡ W.has_failed out.old }
