@@ -2,7 +2,7 @@
 use Rattle.std.proofs.Common.{◌≡◌, ℕ, Bool, true, false, ◌||◌, List, [], Option, Result, Ok, Err, OnOk, OnErr, is_err, refl, sym, ◌∙◌, append-nil, take, drop, take-append-drop}
 use Rattle.std.specs.Io.KnownBytes.{Appends}
 use Rattle.std.proofs.KnownBytes.{Appends-nil}
-use Rattle.byte_io.specs.Transfers.{AppendsPrefix, AppendsPart, Says}
+use Rattle.byte_io.specs.Transfers.{AppendsPrefix, AppendsPart, SaidAll, SaidPart, Says, SaysOrFails}
 use Rattle.byte_io.specs.declared.device.Failed.{Failed}
 
 -- all of a text is a prefix of it
@@ -22,6 +22,10 @@ or-true : (b : Bool) → (b || true) ≡ true
 or-true true = refl
 or-true false = refl
 
+or-false : (b : Bool) → (b || false) ≡ b
+or-false true = refl
+or-false false = refl
+
 -- a text was written, or a prefix of it where the write failed
 pub says : (has_failed failed : Bool) (r : Result (Unit {0}) Failed) (old new : Option (List ℕ)) (text : List ℕ)
     → OnOk r (Appends old new text) → OnErr r (AppendsPart old new text) → has_failed ≡ (failed || is_err r) → Says has_failed old new text
@@ -30,6 +34,12 @@ says has_failed failed (Err e) old new text whole part flag = record {
   said = prefix-part part;
   whole = λ clear. let bad : false ≡ true = sym clear ∙ (flag ∙ or-true failed) in (cc);
 }
+
+-- and exactly so, by the flag before
+pub says-or-fails : (has_failed failed : Bool) (r : Result (Unit {0}) Failed) (old new : Option (List ℕ)) (text : List ℕ)
+    → OnOk r (Appends old new text) → OnErr r (AppendsPart old new text) → has_failed ≡ (failed || is_err r) → SaysOrFails failed has_failed old new text
+says-or-fails has_failed failed (Ok u) old new text whole part flag = SaidAll (flag ∙ or-false failed) whole
+says-or-fails has_failed failed (Err e) old new text whole part flag = SaidPart (flag ∙ or-true failed) part
 
 -- nothing is to be said, and nothing was
 pub says-nothing : (has_failed : Bool) (known : Option (List ℕ)) (text : List ℕ) → text ≡ [] → Says has_failed known known text

@@ -1,5 +1,5 @@
 -- What moves between a device and a list of bytes in many calls.
-use Rattle.std.specs.Prelude.{◌≡◌, ◌≢◌, ℕ, ◌<◌, ◌≤◌, ◌++◌, Bool, false, List, [], length, take, Option}
+use Rattle.std.specs.Prelude.{◌≡◌, ◌≢◌, ℕ, ◌<◌, ◌≤◌, ◌++◌, Bool, true, false, List, [], length, take, Option}
 use Rattle.std.specs.Io.KnownBytes.{Appends}
 use Rattle.byte_io.specs.Devices.{Coming, Clean, Faulty, Gives, IfKnown}
 
@@ -20,6 +20,11 @@ pub record AppendsPrefix (old new : Option (List ℕ)) (text : List ℕ) : Type 
 pub record Says (has_failed : Bool) (old new : Option (List ℕ)) (text : List ℕ) : Type 0 where
   pub said : AppendsPrefix old new text
   pub whole : has_failed ≡ false → said.rest ≡ []
+
+-- all of a text was written, and no write failed; or one did, at which writing ended: a prefix was written, and not all
+pub data SaysOrFails (had_failed has_failed : Bool) (old new : Option (List ℕ)) (text : List ℕ) : Type 0 where
+  SaidAll : has_failed ≡ had_failed → Appends old new text → SaysOrFails had_failed has_failed old new text
+  SaidPart : has_failed ≡ true → AppendsPart old new text → SaysOrFails had_failed has_failed old new text
 
 -- a text grows by bytes that a reader gave, and the reader gave no others
 pub record ReadsInto (old new : Option Coming) (before after : List ℕ) : Type 0 where

@@ -2,7 +2,7 @@
 ghost use Rattle.std.specs.Prelude.{◌≡◌, ◌≢◌, ◌+◌, ◌^◌, ◌<◌, ◌≤◌, ◌||◌, ◌⊎◌, vec_len, length, IsTrue, IfOk, IfSome, OnOk, OnErr, is_err};
 ghost use Rattle.std.specs.Io.KnownBytes.{Appends};
 ghost use Rattle.byte_io.specs.Devices.{EndsHere, MayFail, IfKnown};
-ghost use Rattle.byte_io.specs.Transfers.{AppendsPart, FaultFollows, ReadsAll, ReadsInto, Says};
+ghost use Rattle.byte_io.specs.Transfers.{AppendsPart, FaultFollows, ReadsAll, ReadsInto, Says, SaysOrFails};
 
 use crate::device::{ByteIn, ByteOut, Failed};
 use crate::limits::MAX_TURNS;
@@ -51,7 +51,9 @@ pub fn write_all<W: ByteOut>(out: &mut W, piece: &[u8]) -> Result<(), Failed>
 /// Writes a text, as far as that is possible. What cannot be written is not tried again: only the flag of the device
 /// shows it.
 pub fn say_text<W: ByteOut>(text: &str, out: &mut W)
-    ensures { Says (W.has_failed out.new) (W.written out.old) (W.written out.new) text.now }
+    ensures said { Says (W.has_failed out.new) (W.written out.old) (W.written out.new) text.now }
+    ensures exact { SaysOrFails (W.has_failed out.old) (W.has_failed out.new)
+        (W.written out.old) (W.written out.new) text.now }
 {
     let _ = write_all(out, text.as_bytes());
 }

@@ -1,7 +1,7 @@
 -- The reports on connections that have ended.
-use Rattle.std.specs.Prelude.{◌≡◌, ℕ, ◌+◌, ◌≤◌, ◌⊎◌, Bool, true, false, All, List, [], ◌∷◌, ◌++◌, Option, Some, None, codes, decimal, length}
+use Rattle.std.specs.Prelude.{◌≡◌, ℕ, ◌+◌, ◌<◌, ◌≤◌, ◌⊎◌, Bool, true, false, All, List, [], ◌∷◌, ◌++◌, Option, Some, None, codes, decimal, length}
 use Rattle.std.specs.Io.KnownBytes.{Appends}
-use Rattle.byte_io.specs.Transfers.{AppendsPrefix, Says}
+use Rattle.byte_io.specs.Transfers.{AppendsPart, SaysOrFails}
 use Rattle.scan_serve.specs.declared.ended.Ended.{Ended}
 use Rattle.scan_serve.specs.declared.ended.Ended.TheVariants as ended
 use Rattle.scan_run.specs.declared.status.Status.{Status}
@@ -33,21 +33,21 @@ IsStatusOf endings status =
     ((status ≡ Clean) × All (λ e. e ≡ Some ended.Clean) endings) ⊎ ((status ≡ Unclean) × ¬ All (λ e. e ≡ Some ended.Clean) endings)
 
 -- All lines are written, and then a fault of accepting, where there was one. Or a write of the lines failed; or there
--- was no memory for them.
-pub data Reports (endings : List (Option Ended)) (faulty : Bool) (status : Status) (out_failed err_failed : Bool) (out_old out_new err_old err_new : Option (List ℕ)) : Type 0 where
+-- was no memory for them, though there are some.
+pub data Reports (endings : List (Option Ended)) (faulty : Bool) (status : Status) (out_failed err_had_failed err_failed : Bool) (out_old out_new err_old err_new : Option (List ℕ)) : Type 0 where
   Written : faulty ≡ false → IsStatusOf endings status → Appends out_old out_new (lines_from 1 endings) → Appends err_old err_new []
-      → Reports endings faulty status out_failed err_failed out_old out_new err_old err_new
-  Faulty : faulty ≡ true → status ≡ Trouble → Appends out_old out_new (lines_from 1 endings) → Says err_failed err_old err_new accept_fault
-      → Reports endings faulty status out_failed err_failed out_old out_new err_old err_new
-  Broken : out_failed ≡ true → status ≡ Trouble → AppendsPrefix out_old out_new (lines_from 1 endings) → Appends err_old err_new []
-      → Reports endings faulty status out_failed err_failed out_old out_new err_old err_new
-  Starved : status ≡ Trouble → Appends out_old out_new [] → Says err_failed err_old err_new out_of_memory
-      → Reports endings faulty status out_failed err_failed out_old out_new err_old err_new
+      → Reports endings faulty status out_failed err_had_failed err_failed out_old out_new err_old err_new
+  Faulty : faulty ≡ true → status ≡ Trouble → Appends out_old out_new (lines_from 1 endings) → SaysOrFails err_had_failed err_failed err_old err_new accept_fault
+      → Reports endings faulty status out_failed err_had_failed err_failed out_old out_new err_old err_new
+  Broken : out_failed ≡ true → status ≡ Trouble → AppendsPart out_old out_new (lines_from 1 endings) → Appends err_old err_new []
+      → Reports endings faulty status out_failed err_had_failed err_failed out_old out_new err_old err_new
+  Starved : 0 < length endings → status ≡ Trouble → Appends out_old out_new [] → SaysOrFails err_had_failed err_failed err_old err_new out_of_memory
+      → Reports endings faulty status out_failed err_had_failed err_failed out_old out_new err_old err_new
 
 -- Connections were served and reported: all of them, or fewer where accepting failed.
-pub record ReportsSome (connections : ℕ) (status : Status) (out_failed err_failed : Bool) (out_old out_new err_old err_new : Option (List ℕ)) : Type 0 where
+pub record ReportsSome (connections : ℕ) (status : Status) (out_failed err_had_failed err_failed : Bool) (out_old out_new err_old err_new : Option (List ℕ)) : Type 0 where
   pub endings : List (Option Ended)
   pub faulty : Bool
   pub few : length endings ≤ connections
   pub all : faulty ≡ false → length endings ≡ connections
-  pub reported : Reports endings faulty status out_failed err_failed out_old out_new err_old err_new
+  pub reported : Reports endings faulty status out_failed err_had_failed err_failed out_old out_new err_old err_new

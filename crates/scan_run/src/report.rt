@@ -1,5 +1,5 @@
 //! Reporting how connections ended.
-ghost use Rattle.std.specs.Prelude.{◌≡◌, ◌≢◌, ◌++◌, ◌||◌, IfOk, OnOk, string_bytes};
+ghost use Rattle.std.specs.Prelude.{◌≡◌, ◌≢◌, ◌<◌, ◌++◌, ◌||◌, IfOk, OnErr, OnOk, length, string_bytes};
 ghost use Rattle.scan_run.specs.Reports.{IsStatusOf, Reports, line_text, lines_from, word_of};
 
 use crate::status::Status;
@@ -16,7 +16,7 @@ pub(crate) fn report<O: ByteOut, E: ByteOut>(
     out: &mut O,
     err: &mut E,
 ) -> Status
-    ensures reported { Reports endings.now faulty result (O.has_failed out.new) (E.has_failed err.new)
+    ensures reported { Reports endings.now faulty result (O.has_failed out.new) (E.has_failed err.old) (E.has_failed err.new)
         (O.written out.old) (O.written out.new) (E.written err.old) (E.written err.new) }
 
     // A write that failed shows in the status.
@@ -39,7 +39,8 @@ pub(crate) fn report<O: ByteOut, E: ByteOut>(
 
 /// The lines of connections, counted from 1.
 fn lines(alloc: Global, endings: &[Option<Ended>]) -> Result<String, AllocError>
-    ensures { IfOk result (λ text. string_bytes text ≡ lines_from 1 endings.now) }
+    ensures text { IfOk result (λ text. string_bytes text ≡ lines_from 1 endings.now) }
+    ensures starved { OnErr result (0 < length endings.now) }
 {
     let mut text = String::new(alloc);
     let mut number = 1_u64;

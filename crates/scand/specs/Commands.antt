@@ -31,7 +31,7 @@ ReportsPort port err_old err_new =
 -- So many connections to a port were served and reported, once the port was reported. Or why there were none was said,
 -- and nothing else was done; or a write failed of the port that the system chose.
 pub data ServesPort (port connections : ℕ) (status : Status) (out_failed err_failed : Bool) (out_old out_new err_old err_new : Option (List ℕ)) : Type 0 where
-  Reported : (err_mid : Option (List ℕ)) → ReportsPort port err_old err_mid → ReportsSome connections status out_failed err_failed out_old out_new err_mid err_new
+  Reported : (err_mid : Option (List ℕ)) (had_failed : Bool) → ReportsPort port err_old err_mid → ReportsSome connections status out_failed had_failed err_failed out_old out_new err_mid err_new
       → ServesPort port connections status out_failed err_failed out_old out_new err_old err_new
   Unreported : (chosen : ℕ) → port ≡ 0 → status ≡ Trouble → Appends out_old out_new [] → err_failed ≡ true → AppendsPart err_old err_new (port_line chosen)
       → ServesPort port connections status out_failed err_failed out_old out_new err_old err_new

@@ -2,4 +2,4 @@
 use Rattle.scand.proofs.command.explain.Goals as goal
 
 pub returns-in-OutOfMemory : goal.returns-in-OutOfMemory
-returns-in-OutOfMemory g c = rw c.in-OutOfMemory.is c.say_text-in-OutOfMemory.ensures
+returns-in-OutOfMemory g c = rw c.in-OutOfMemory.is c.say_text-in-OutOfMemory.ensures.said

@@ -9,4 +9,4 @@ returns-in_default-clause-serves g c = unserved c.args.port c.args.connections.c
 
 pub returns-else-port-eq0-clause-serves : goal.returns-else-port-eq0-clause-serves
 returns-else-port-eq0-clause-serves g c =
-    Reported (g.E.ByteOut.written c.args.err.now) (inr (λ zero. omega (arith, zero, c.if-port-eq0.false), refl)) c.listen.ensures.reported
+    Reported (g.E.ByteOut.written c.args.err.now) (g.E.ByteOut.has_failed c.args.err.now) (inr (λ zero. omega (arith, zero, c.if-port-eq0.false), refl)) c.listen.ensures.reported
