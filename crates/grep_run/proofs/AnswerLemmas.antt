@@ -141,7 +141,7 @@ message-prefix o s left why false {err_old} {err_new} p q e =
 
 refused-cut : (o : GrepOptions) (s left : Sources) (why : NoPatterns) (stop : Stop) (out : Writer) {err_old err_new : Writer} → LacksPatterns o s left why → IsRefusalCut why err_old err_new
     → RunsTo o s left (Err stop) out out err_old err_new
-refused-cut o s left why stop out p q = OverPatterns (record { asked = p.prefix; output = Writes-nil out; messages = message-prefix o s left why (is_memory_of why) p q refl })
+refused-cut o s left why stop out p q = OverPatterns (record { asked = p.prefix; output = Writes-nil out; messages = message-prefix o s left why (is_memory_of why) p q refl; starved = q.starved })
 
 pub answers-refused : (o : GrepOptions) (known left : Option Sources) (why : NoPatterns) (r : Result Status Stop) (out err_old err_new : Writer) → IfOk r (λ status. status ≡ Trouble)
     → IfKnown known left (λ s l. AreShort s → LacksPatterns o s l why) → Refuses why r err_old err_new → IfKnown known left (λ s l. AreShort s → RunsTo o s l r out out err_old err_new)

@@ -519,9 +519,15 @@ begin-stands {o} {test} {name} {p} {b} out f numbers seen options called count e
     }
 
 -- where the block was cut there is no message
-pub search-cut : (o : GrepOptions) (test : List ℕ → Bool) (name : List ℕ) (source : Option Content) (out_old out_new err : Writer)
-    → WritesPrefix out_old out_new (block_in o test name source) → IsCut o test name source out_old out_new err err
-search-cut o test name source out_old out_new err p = record { output = p; messages = WritesPrefix-none err (message_in o test name source); quiet = λ clear set. Writes-nil err }
+pub search-cut : (o : GrepOptions) (test : List ℕ → Bool) (name : List ℕ) (c : Content) (out_old out_new err : Writer)
+    → WritesPrefix out_old out_new (block_in o test name (Some c)) → IsCut o test name (Some c) out_old out_new err err
+search-cut o test name c out_old out_new err p = record {
+  output = p;
+  messages = WritesPrefix-none err (message_in o test name (Some c));
+  quiet = λ clear set. Writes-nil err;
+  starved = λ clear. Writes-nil err;
+  loud = λ none. absurd (cc);
+}
 
 module _ {o : GrepOptions} {test : List ℕ → Bool} {name : List ℕ} {c : Content} {end : End} {b : Block} {before now : Writer} (h : HasRead o test name c end b before now) (further : Writer) where
   -- the text at the end, by the options and the name of all
@@ -533,7 +539,7 @@ module _ {o : GrepOptions} {test : List ℕ → Bool} {name : List ℕ} {c : Con
 
   -- the block that was read, with its end
   pub finished-cut : (err : Writer) → WritesPrefix now further ended → IsCut o test name (Some c) before further err err
-  finished-cut err cut = search-cut o test name (Some c) before further err (subst (WritesPrefix before further) end-same (WritesPrefix-after before now further h.lines ended h.written cut))
+  finished-cut err cut = search-cut o test name c before further err (subst (WritesPrefix before further) end-same (WritesPrefix-after before now further h.lines ended h.written cut))
 
   finished : Writes now further ended → Writes before further (block_in o test name (Some c))
   finished all = subst (Writes before further) end-same (Writes-trans before now further h.lines ended h.written all)
@@ -543,11 +549,13 @@ module _ {o : GrepOptions} {test : List ℕ → Bool} {name : List ℕ} {c : Con
     same-message = ap (λ f. cond (f && not o.silent) (unreadable name) []) (error ∙ h.error)
 
     -- a prefix of the message was written
-    pub message-cut : WritesPrefix err_old err_new (cond (is_error && not o.silent) (unreadable name) []) → IsCut o test name (Some c) before further err_old err_new
-    message-cut q = record {
+    pub message-cut : WritesPrefix err_old err_new (cond (is_error && not o.silent) (unreadable name) []) → (err_new.has_failed ≡ false → Writes err_old err_new []) → IsCut o test name (Some c) before further err_old err_new
+    message-cut q starved = record {
       output = WritesPrefix-all before further _ (finished all);
       messages = subst (WritesPrefix err_old err_new) same-message q;
       quiet = λ clear set. apart further.has_failed set ((finished all).flag ∙ clear);
+      starved = starved;
+      loud = λ none. absurd (cc);
     }
 
     -- the message was written, if there is one

@@ -1,10 +1,11 @@
 -- Inputs one after another: the text written, the findings, and the asks.
-use Rattle.std.proofs.Common.{◌≡◌, ℕ, ◌+◌, ◌<◌, String, string_bytes, length, get_or, drop, Bool, true, false, ◌||◌, ◌&&◌, cond, List, [], ◌∷◌, ◌++◌, map, flat_map, Option, Result, refl, sym, ap, ◌∙◌, subst, append_assoc, append-nil, arith}
+use Rattle.std.proofs.Common.{◌≡◌, ◌≢◌, ℕ, ◌+◌, ◌<◌, String, string_bytes, length, get_or, drop, Bool, true, false, ◌||◌, ◌&&◌, cond, List, [], ◌∷◌, ◌++◌, map, flat_map, None, Option, Result, refl, sym, ap, ◌∙◌, subst, append_assoc, append-nil, arith}
 use Rattle.byte_io.specs.Sources.{AreShort, Ask, Sources, after, after_all, ask_of, taken_by}
 use Rattle.std.specs.List.{list_any}
 use Rattle.std.proofs.Math.Bool.{or-false}
 use Rattle.std.proofs.lemmas.List.{drop_more, map-append}
 use Rattle.std.proofs.lemmas.List.Concat.{flat_map-append}
+use Rattle.std.proofs.lemmas.List.Elements.{All-cons, All-nil}
 use Rattle.std.proofs.lemmas.List.Folds.{list_any-append}
 use Rattle.byte_io.specs.Devices.{IfKnown}
 use Rattle.byte_io.proofs.KnownLemmas.{IfKnown-none, IfKnown-then}
@@ -110,6 +111,10 @@ module _ {o : GrepOptions} {test : List ℕ → Bool} {all : List Ask} {s mid : 
     quiet = λ clear set.
         subst (Writes err_old err_new) (append-nil (flat_map (message o test) p.done))
         (Writes-trans err_old err_mid err_new (flat_map (message o test) p.done) [] p.so_far.messages (q.quiet (p.so_far.output.flag ∙ clear) set));
+    starved = λ clear.
+        subst (Writes err_old err_new) (append-nil (flat_map (message o test) p.done))
+        (Writes-trans err_old err_mid err_new (flat_map (message o test) p.done) [] p.so_far.messages (q.starved clear));
+    loud = All-cons (λ (input : Input). input.source ≡ None → o.silent ≢ true) next [] q.loud (All-nil (λ (input : Input). input.source ≡ None → o.silent ≢ true));
   }
 
 -- where no input remains, all are searched
@@ -134,6 +139,8 @@ StopsAt-none o test inputs s out err = record {
   output = record { between = out; whole = Writes-nil out; prefix = WritesPrefix-none out [] };
   messages = record { between = err; whole = Writes-nil err; prefix = WritesPrefix-none err [] };
   quiet = λ clear set. Writes-nil err;
+  starved = λ clear. Writes-nil err;
+  loud = All-nil (λ (input : Input). input.source ≡ None → o.silent ≢ true);
 }
 
 -- the asks for the operands from a place on

@@ -1,10 +1,12 @@
 -- Texts written in parts: one after another, and prefixes of texts.
-use Rattle.std.proofs.Common.{◌≡◌, ℕ, ◌||◌, Bool, true, false, List, [], ◌++◌, refl, sym, ap, ◌∙◌, append_assoc, append-nil, length-append, length-drop, take, drop, take-append-drop, arith}
-use Rattle.std.proofs.Math.Bool.{or-false}
+use Rattle.std.proofs.Common.{◌≡◌, ℕ, ◌||◌, Bool, true, false, List, [], ◌++◌, Result, Err, Ok, OnErr, refl, sym, ap, ◌∙◌, append_assoc, append-nil, length-append, length-drop, take, drop, take-append-drop, arith}
+use Rattle.std.proofs.Math.Bool.{or-false, or-true}
 use Rattle.std.specs.Io.KnownBytes.{Appends}
 use Rattle.std.proofs.KnownBytes.{Appends-nil, Appends-trans}
 use Rattle.byte_io.specs.Transfers.{AppendsPart}
-use Rattle.grep_run.specs.Writers.{Writer, Writes, WritesPrefix}
+use Rattle.grep_run.specs.Writers.{Writer, Writes, WritesPrefix, is_write_fault}
+use Rattle.grep_run.specs.declared.status.Stop.{Stop}
+use Rattle.grep_run.specs.declared.status.Stop.TheVariants.{WriteFault}
 
 -- no text is written
 pub Writes-nil : (a : Writer) → Writes a a []
@@ -69,3 +71,8 @@ WritesPrefix-more a b part more q = record {
 -- where no text is written, a prefix of any is
 pub WritesPrefix-nothing : (a b : Writer) (text : List ℕ) → Writes a b [] → WritesPrefix a b text
 WritesPrefix-nothing a b text p = WritesPrefix-more a b [] text (WritesPrefix-all a b [] p)
+
+-- where a call failed at a write, the flag is set; so where it is clear, nothing was written
+pub Writes-clear : {T : Type 0} (r : Result T Stop) (a b : Writer) → OnErr r (r ≡ Err WriteFault) → b.has_failed ≡ (a.has_failed || is_write_fault r) → OnErr r (b.has_failed ≡ false → Writes a b [])
+Writes-clear (Ok x) a b fault flag = tt
+Writes-clear (Err e) a b fault flag = λ clear. apart b.has_failed (flag ∙ ap (λ x. a.has_failed || is_write_fault x) fault ∙ or-true a.has_failed) clear

@@ -1,5 +1,5 @@
 -- What gathering patterns answers, against the patterns and the messages of pattern files.
-use Rattle.std.specs.Prelude.{◌≡◌, ◌≢◌, ℕ, List, [], ◌++◌, flat_map, Option, Some, None, Result, Ok, Err}
+use Rattle.std.specs.Prelude.{◌≡◌, ◌≢◌, ℕ, false, List, [], ◌++◌, flat_map, Option, Some, None, Result, Ok, Err}
 use Rattle.byte_io.specs.Sources.{AsksPrefix, Content, Sources, after_all}
 use Rattle.lit_base.specs.declared.fault.Fault.TheVariants.{OutOfMemory}
 use Rattle.line_pick.specs.Matching.{StandsFor}
@@ -55,7 +55,7 @@ TakesPatterns o s left (Ok compiled) = HasPatterns o s left compiled
 TakesPatterns o s left (Err why) = LacksPatterns o s left why
 
 -- the text where there are no patterns: the message, or a prefix of it where that is stopped; nothing for want of
--- memory
+-- memory, for the patterns or for the message
 abbrev pub text_of : NoPatterns → List ℕ
 text_of (Unreadable name) = unreadable name.now
 text_of (Refused fault) = patterns_refused fault
@@ -67,6 +67,7 @@ pub record IsRefusal (why : NoPatterns) (err_old err_new : Writer) : Type 0 wher
 pub record IsRefusalCut (why : NoPatterns) (err_old err_new : Writer) : Type 0 where
   pub prefix : WritesPrefix err_old err_new (text_of why)
   pub unreported : why ≡ Refused OutOfMemory → Writes err_old err_new []
+  pub starved : err_new.has_failed ≡ false → Writes err_old err_new []
 
 abbrev pub Refuses : {T : Type 0} → NoPatterns → Result T Stop → Writer → Writer → Type 0
 Refuses why (Ok _) = IsRefusal why

@@ -1,5 +1,5 @@
 -- How a run ends, against what grep writes and answers.
-use Rattle.std.specs.Prelude.{◌≡◌, ◌||◌, ◌⊎◌, true, [], None, Result, Ok, Err, unwrap_or}
+use Rattle.std.specs.Prelude.{◌≡◌, ◌||◌, ◌⊎◌, true, false, [], None, Result, Ok, Err, unwrap_or}
 use Rattle.byte_io.specs.Sources.{AsksPrefix, Sources}
 use Rattle.grep_run.specs.declared.options.GrepOptions.{GrepOptions}
 use Rattle.grep_run.specs.declared.status.Status.{Status}
@@ -18,11 +18,13 @@ pub record IsAnswered (o : GrepOptions) (a : Answer) (status : Status) (out_old 
   pub messages : Writes err_old err_new a.messages
   pub answer : status ≡ status_of o a
 
--- a run that stopped over its patterns wrote a prefix of the message on them, and asked for no file to search
+-- a run that stopped over its patterns wrote a prefix of the message on them, and none of it where no write failed; it
+-- asked for no file to search
 pub record StopsEarly (o : GrepOptions) (s left : Sources) (out_old out_new err_old err_new : Writer) : Type 0 where
   pub asked : AsksPrefix (asks (files_asked o s)) s left
   pub output : Writes out_old out_new []
   pub messages : WritesPrefix err_old err_new (unwrap_or (patterns_message o s) [])
+  pub starved : err_new.has_failed ≡ false → Writes err_old err_new []
 
 -- a run that stopped did so over its patterns, or over its inputs
 pub data Stops (o : GrepOptions) (s left : Sources) (out_old out_new err_old err_new : Writer) : Type 0 where

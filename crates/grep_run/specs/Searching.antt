@@ -1,5 +1,5 @@
 -- What searching inputs writes and answers.
-use Rattle.std.specs.Prelude.{◌≡◌, ℕ, ◌≤◌, Bool, true, false, List, [], ◌++◌, length, Option, Result, Ok, Err}
+use Rattle.std.specs.Prelude.{◌≡◌, ◌≢◌, ℕ, ◌≤◌, All, Bool, true, false, List, [], ◌++◌, length, Option, None, Result, Ok, Err}
 use Rattle.byte_io.specs.Sources.{AreShort, Ask, Content, Sources, after, after_all, taken_by}
 use Rattle.grep_run.specs.declared.options.GrepOptions.{GrepOptions}
 use Rattle.grep_run.specs.declared.request.Found.{Found}
@@ -18,11 +18,14 @@ pub record IsSearched (o : GrepOptions) (test : List ℕ → Bool) (name : List 
   pub selected : found.is_selected ≡ has_any (selected_in test source)
   pub error : found.is_error ≡ is_trouble o test source
 
--- prefixes of both are written, and no message where the output failed
+-- prefixes of both are written, and no message where the output failed, nor where no message did. An input that cannot
+-- be opened is cut only in its message, so not where -s drops it
 pub record IsCut (o : GrepOptions) (test : List ℕ → Bool) (name : List ℕ) (source : Option Content) (out_old out_new err_old err_new : Writer) : Type 0 where
   pub output : WritesPrefix out_old out_new (block_in o test name source)
   pub messages : WritesPrefix err_old err_new (message_in o test name source)
   pub quiet : out_old.has_failed ≡ false → out_new.has_failed ≡ true → Writes err_old err_new []
+  pub starved : err_new.has_failed ≡ false → Writes err_old err_new []
+  pub loud : source ≡ None → o.silent ≢ true
 
 abbrev pub Searches : GrepOptions → (List ℕ → Bool) → List ℕ → Option Content → Result Found Stop → Writer → Writer → Writer → Writer → Type 0
 Searches o test name source (Ok found) = IsSearched o test name source found
@@ -41,8 +44,8 @@ pub record AreSearched (a : Answer) (found : Found) (out_old out_new err_old err
   pub error : found.is_error ≡ a.has_error
 
 -- it stopped: all of the inputs before the last one that was asked for is written, of that one prefixes, and nothing
--- more is asked for; where none was asked for, nothing is written. Where the output failed, there is no message on the
--- last one
+-- more is asked for; where none was asked for, nothing is written. Where the output failed, or no message did, there is
+-- no message on the last one. Under -s the last one could be opened
 pub record StopsAt (o : GrepOptions) (test : List ℕ → Bool) (inputs : List Input) (s left : Sources) (out_old out_new err_old err_new : Writer) : Type 0 where
   pub done : List Input
   pub last : List Input
@@ -53,6 +56,8 @@ pub record StopsAt (o : GrepOptions) (test : List ℕ → Bool) (inputs : List I
   pub output : WritesUpTo out_old out_new (answer_to o test done).output (answer_to o test last).output
   pub messages : WritesUpTo err_old err_new (answer_to o test done).messages (answer_to o test last).messages
   pub quiet : out_old.has_failed ≡ false → out_new.has_failed ≡ true → Writes err_old err_new (answer_to o test done).messages
+  pub starved : err_new.has_failed ≡ false → Writes err_old err_new (answer_to o test done).messages
+  pub loud : All (λ (input : Input). input.source ≡ None → o.silent ≢ true) last
 
 abbrev pub SearchesAll : GrepOptions → (List ℕ → Bool) → List Input → Sources → Sources → Result Found Stop → Writer → Writer → Writer → Writer → Type 0
 SearchesAll o test inputs s left (Ok found) out_old out_new err_old err_new =

@@ -1,5 +1,5 @@
 //! Messages on standard error, each a line after the program's name.
-ghost use Rattle.std.specs.Prelude.{◌≡◌, ◌||◌, IfOk, OnErr, OnOk, string_bytes};
+ghost use Rattle.std.specs.Prelude.{◌≡◌, ◌||◌, [], IfOk, OnErr, OnOk, false, string_bytes};
 ghost use Rattle.grep_run.specs.Messages.{out_of_memory, patterns_refused, unreadable};
 ghost use Rattle.grep_run.specs.Writers.{Writes, WritesPrefix, is_write_fault, writer};
 
@@ -9,10 +9,12 @@ use lit_base::Fault;
 use std::alloc::{AllocError, Global};
 
 /// Says that a file cannot be opened or read. After an error some of the message may be written,
-/// from its start.
+/// from its start, and none of it for want of memory.
 pub fn say_unreadable<E: ByteOut>(alloc: Global, name: &str, err: &mut E) -> Result<(), Stop>
     ensures ok { OnOk result (Writes (writer E.written E.has_failed err.old) (writer E.written E.has_failed err.new) (unreadable name.now)) }
     ensures err { OnErr result (WritesPrefix (writer E.written E.has_failed err.old) (writer E.written E.has_failed err.new) (unreadable name.now)) }
+    ensures starved { OnErr result (E.has_failed err.new ≡ false
+        → Writes (writer E.written E.has_failed err.old) (writer E.written E.has_failed err.new) []) }
     ensures flag { E.has_failed err.new ≡ (E.has_failed err.old || is_write_fault result) }
 {
     let text = unreadable_text(alloc, name)?;
@@ -20,10 +22,12 @@ pub fn say_unreadable<E: ByteOut>(alloc: Global, name: &str, err: &mut E) -> Res
 }
 
 /// Says that the patterns are refused, and by which refusal. After an error some of the message may
-/// be written, from its start.
+/// be written, from its start, and none of it for want of memory.
 pub fn say_refused<E: ByteOut>(alloc: Global, fault: Fault, err: &mut E) -> Result<(), Stop>
     ensures ok { OnOk result (Writes (writer E.written E.has_failed err.old) (writer E.written E.has_failed err.new) (patterns_refused fault)) }
     ensures err { OnErr result (WritesPrefix (writer E.written E.has_failed err.old) (writer E.written E.has_failed err.new) (patterns_refused fault)) }
+    ensures starved { OnErr result (E.has_failed err.new ≡ false
+        → Writes (writer E.written E.has_failed err.old) (writer E.written E.has_failed err.new) []) }
     ensures flag { E.has_failed err.new ≡ (E.has_failed err.old || is_write_fault result) }
 {
     let text = refused_text(alloc, fault)?;

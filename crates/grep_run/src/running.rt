@@ -1,5 +1,5 @@
 //! A run of grep.
-ghost use Rattle.std.specs.Prelude.{◌≡◌, ◌≢◌, ◌||◌, ◌&&◌, [], IfOk, OnErr, OnOk};
+ghost use Rattle.std.specs.Prelude.{◌≡◌, ◌≢◌, ◌||◌, ◌&&◌, [], IfOk, OnErr, OnOk, false, if◌then◌else◌};
 ghost use Rattle.byte_io.specs.Sources.{AreShort};
 ghost use Rattle.byte_io.specs.Devices.{IfKnown};
 ghost use Rattle.grep_run.specs.Gathering.{Refuses};
@@ -111,6 +111,8 @@ fn say_fault<E: ByteOut>(alloc: Global, fault: Fault, err: &mut E) -> Result<(),
     ensures other { OnOk result (fault ≢ Fault.OutOfMemory) }
     ensures ok { OnOk result (Writes (writer E.written E.has_failed err.old) (writer E.written E.has_failed err.new) (patterns_refused fault)) }
     ensures stopped { OnErr result (WritesPrefix (writer E.written E.has_failed err.old) (writer E.written E.has_failed err.new) (patterns_refused fault)) }
+    ensures starved { OnErr result (E.has_failed err.new ≡ false
+        → Writes (writer E.written E.has_failed err.old) (writer E.written E.has_failed err.new) []) }
     ensures unreported { fault ≡ Fault.OutOfMemory → Writes (writer E.written E.has_failed err.old) (writer E.written E.has_failed err.new) [] }
     ensures flag { E.has_failed err.new ≡ (E.has_failed err.old || is_write_fault result) }
 {

@@ -1,5 +1,5 @@
 //! Inputs searched one after another: their blocks, their messages, and what was found.
-ghost use Rattle.std.specs.Prelude.{◌≡◌, ◌<◌, ◌≤◌, ◌||◌, ◌&&◌, [], IfOk, IfSome, None, OnErr, OnOk, Some, if◌then◌else◌, map, not, string_bytes, vec_len};
+ghost use Rattle.std.specs.Prelude.{◌≡◌, ℕ, ◌<◌, ◌≤◌, ◌||◌, ◌&&◌, Bool, List, [], IfOk, IfSome, IsOk, None, OnErr, OnOk, Some, false, if◌then◌else◌, map, not, string_bytes, true, vec_len};
 ghost use Rattle.std.proofs.Props.{props};
 ghost use Rattle.byte_io.specs.Sources.{Content, IsShort, ask_of, coming_of};
 ghost use Rattle.byte_io.specs.Devices.{IfKnown};
@@ -224,6 +224,9 @@ impl<'a> Searcher<'a> {
             (if is_error && not self.now.request.options.now.silent then unreadable name.now else [])) }
         ensures cut { OnErr result (WritesPrefix (writer E.written E.has_failed err.old) (writer E.written E.has_failed err.new)
             (if is_error && not self.now.request.options.now.silent then unreadable name.now else [])) }
+        ensures starved { OnErr result (E.has_failed err.new ≡ false
+            → Writes (writer E.written E.has_failed err.old) (writer E.written E.has_failed err.new) []) }
+        ensures silent { self.now.request.options.now.silent ≡ true → IsOk result }
         ensures flag { E.has_failed err.new ≡ (E.has_failed err.old || is_write_fault result) }
     {
         if is_error && !self.request.options.silent {
