@@ -150,7 +150,7 @@ taken-more o name before_lines more all old mid new before now further t m e pas
 }
 
 -- an emission that stopped emitted its lines
-emitted-stopped : {takes : Block → ℕ → List ℕ → Result Next Failure → Block → Type 0} {s t : Block} {lines : List (ℕ × List ℕ)} → Emits takes s lines (Ok Stop) t → Emitted takes s lines (Ok Stop) t
+emitted-stopped : {takes : Block → ℕ → List ℕ → Result Next Failure → Block → Type 0} {held left : List ℕ} {s t : Block} {lines : List (ℕ × List ℕ)} → Emits takes held left s lines (Ok Stop) t → Emitted takes s lines (Ok Stop) t
 emitted-stopped (Whole h) = h
 
 module _ {o : GrepOptions} {test : List ℕ → Bool} {name text : List ℕ} (piece : List ℕ) {p : Picking} (new_p : Picking) {b : Block} (mid : Block) {before : Writer} (now : Writer)

@@ -1,5 +1,5 @@
 -- Lines that are emitted one after another.
-use Rattle.std.proofs.Common.{◌≡◌, ◌≢◌, ℕ, suc, ◌+◌, ◌<◌, Bool, true, false, cond, List, [], ◌∷◌, ◌++◌, length, Result, Ok, Err, IsOk, OnOk, OnErr, ◌⊎◌, inl, inr, refl, sym, ap, ◌∙◌, subst, append_assoc, append-nil, arith, All}
+use Rattle.std.proofs.Common.{◌≡◌, ◌≢◌, ℕ, suc, ◌+◌, ◌<◌, Bool, true, false, cond, List, [], ◌∷◌, ◌++◌, length, Result, Ok, Err, IsOk, OnOk, OnErr, ◌⊎◌, inl, inr, refl, sym, ap, ◌∙◌, subst, append_assoc, arith, All}
 use Rattle.std.proofs.lemmas.Bool.{false≢true}
 use Rattle.std.proofs.lemmas.List.{length-append}
 use Rattle.std.proofs.lemmas.List.Elements.{All-head, All-tail}
@@ -12,7 +12,7 @@ use Rattle.line_pick.specs.declared.halt.Halt.{Halt}
 use Rattle.line_pick.specs.declared.halt.Halt.TheVariants.{Stopped, Failed}
 use Rattle.line_pick.specs.declared.sink.Next.{Next}
 use Rattle.line_pick.specs.declared.sink.Next.TheVariants.{More, Stop}
-use Rattle.line_pick.specs.Emitting.{Emits, Emitted, NoneLeft, OneMore, LastOne, Whole, Starved, Refused, answer_of, answer_to, numbered}
+use Rattle.line_pick.specs.Emitting.{Emits, EmitsOrAll, EmitsOrNone, Emitted, Begun, Ended, NotBegun, NotHeld, NoneLeft, OneMore, LastOne, Whole, StarvedFirst, StarvedLast, Refused, answer_of, answer_to, numbered}
 
 -- lines that pass come in their order, numbered on
 pub numbered-cons : (test : List ℕ → Bool) (before : ℕ) (line : List ℕ) (lines : List (List ℕ)) → numbered test before (line ∷ lines) ≡ numbered test before (line ∷ []) ++ numbered test (before + 1) lines
@@ -67,19 +67,29 @@ module _ {S : Type 0} {takes : S → ℕ → List ℕ → Result Next Fault → 
   Emitted-join (OneMore h rest) later = OneMore h (Emitted-join rest later)
   Emitted-join (LastOne h last) later = absurd (last refl)
 
-  pub Emits-halted : {s t : S} {lines : List (ℕ × List ℕ)} {answer : Result Next Fault} (more : List (ℕ × List ℕ)) → Emits takes s lines answer t → answer ≢ Ok More → Emits takes s (lines ++ more) answer t
-  Emits-halted more (Whole h) halted = Whole (Emitted-halted more h halted)
-  Emits-halted more (Starved prefix rest parts h) halted = Starved prefix (rest ++ more) (ap (λ ls. ls ++ more) parts ∙ append_assoc prefix rest more) h
-  Emits-halted more Refused halted = Refused
+  pub OrNone-halted : {s t : S} {lines : List (ℕ × List ℕ)} {answer : Result Next Fault} (more : List (ℕ × List ℕ)) → EmitsOrNone takes s lines answer t → answer ≢ Ok More → EmitsOrNone takes s (lines ++ more) answer t
+  OrNone-halted more (Begun h) halted = Begun (Emitted-halted more h halted)
+  OrNone-halted more NotBegun halted = NotBegun
 
-  pub Emits-join : {s t u : S} {lines more : List (ℕ × List ℕ)} {answer : Result Next Fault} → Emitted takes s lines (Ok More) t → Emits takes t more answer u → answer ≢ Err StreamTooLong → Emits takes s (lines ++ more) answer u
-  Emits-join h (Whole later) short = Whole (Emitted-join h later)
-  Emits-join {lines = lines} h (Starved prefix rest parts later) short = Starved (lines ++ prefix) rest (ap (λ ls. lines ++ ls) parts ∙ sym (append_assoc lines prefix rest)) (Emitted-join h later)
-  Emits-join h Refused short = absurd (short refl)
+  pub OrAll-join : {left : List ℕ} {s t u : S} {lines more : List (ℕ × List ℕ)} {answer : Result Next Fault} → Emitted takes s lines (Ok More) t → EmitsOrAll takes left t more answer u → EmitsOrAll takes left s (lines ++ more) answer u
+  OrAll-join h (Ended later) = Ended (Emitted-join h later)
+  OrAll-join h (NotHeld some later) = NotHeld some (Emitted-join h later)
+
+  -- the lines of a text, from those of a part
+  pub Emits-from_none : {held left : List ℕ} {s t : S} {lines : List (ℕ × List ℕ)} {answer : Result Next Fault} → 0 < length held → EmitsOrNone takes s lines answer t → Emits takes held left s lines answer t
+  Emits-from_none some (Begun h) = Whole h
+  Emits-from_none some NotBegun = StarvedFirst some
+
+  pub Emits-from_all : {held left : List ℕ} {s t : S} {lines : List (ℕ × List ℕ)} {answer : Result Next Fault} → EmitsOrAll takes left s lines answer t → Emits takes held left s lines answer t
+  Emits-from_all (Ended h) = Whole h
+  Emits-from_all (NotHeld some h) = StarvedLast some h
 
   -- where the sink wants more, all lines were emitted
-  pub Emitted-from_Emits : {s t : S} {lines : List (ℕ × List ℕ)} → Emits takes s lines (Ok More) t → Emitted takes s lines (Ok More) t
+  pub Emitted-from_Emits : {held left : List ℕ} {s t : S} {lines : List (ℕ × List ℕ)} → Emits takes held left s lines (Ok More) t → Emitted takes s lines (Ok More) t
   Emitted-from_Emits (Whole h) = h
+
+  pub Emitted-from_none : {s t : S} {lines : List (ℕ × List ℕ)} → EmitsOrNone takes s lines (Ok More) t → Emitted takes s lines (Ok More) t
+  Emitted-from_none (Begun h) = h
 
 -- a halt is no call for more
 pub answer_to-More : (halt : Halt) → answer_to halt ≢ Ok More
@@ -97,37 +107,39 @@ pub answer_of-IsOk : {T : Type 0} (r : Result T Halt) → IsOk r → answer_of r
 answer_of-IsOk (Ok x) ok = refl
 answer_of-IsOk (Err halt) ok = absurd (false≢true ok)
 
--- an answer is a stream too long only where the halt is
-pub answer_of-StreamTooLong : {T : Type 0} (r : Result T Halt) → r ≢ Err (Failed StreamTooLong) → answer_of r ≢ Err StreamTooLong
-answer_of-StreamTooLong (Ok x) other = λ e. (cc)
-answer_of-StreamTooLong (Err Stopped) other = λ e. (cc)
-answer_of-StreamTooLong (Err (Failed fault)) other = λ e. other (cc)
-
 -- where a growth was refused, nothing more is emitted
-pub Emits-starved : {S T : Type 0} {takes : S → ℕ → List ℕ → Result Next Fault → S → Type 0} {s : S} (lines : List (ℕ × List ℕ)) (r : Result T Halt) → r ≡ Err (Failed OutOfMemory) → Emits takes s lines (answer_of r) s
-Emits-starved {takes = takes} {s = s} lines r e = subst (λ q. Emits takes s lines (answer_of q) s) (sym e) (Starved [] lines refl NoneLeft)
+pub OrNone-starved : {S T : Type 0} {takes : S → ℕ → List ℕ → Result Next Fault → S → Type 0} {s : S} (lines : List (ℕ × List ℕ)) (r : Result T Halt) → r ≡ Err (Failed OutOfMemory) → EmitsOrNone takes s lines (answer_of r) s
+OrNone-starved {takes = takes} {s = s} lines r e = subst (λ q. EmitsOrNone takes s lines (answer_of q) s) (sym e) NotBegun
 
 -- nor where it was refused after all lines
-pub Emits-held : {S T : Type 0} {takes : S → ℕ → List ℕ → Result Next Fault → S → Type 0} {s t : S} {lines : List (ℕ × List ℕ)} (r : Result T Halt) → Emitted takes s lines (Ok More) t → OnErr r (r ≡ Err (Failed OutOfMemory)) → Emits takes s lines (answer_of r) t
-Emits-held (Ok x) h starved = Whole h
-Emits-held {takes = takes} {s = s} {t = t} {lines = lines} (Err halt) h starved = subst (λ q. Emits takes s lines (answer_of q) t) (sym starved) (Starved lines [] (sym (append-nil lines)) h)
+pub OrAll-held : {S T : Type 0} {takes : S → ℕ → List ℕ → Result Next Fault → S → Type 0} {left : List ℕ} {s t : S} {lines : List (ℕ × List ℕ)} (r : Result T Halt) → Emitted takes s lines (Ok More) t → OnErr r (r ≡ Err (Failed OutOfMemory)) → OnErr r (0 < length left)
+    → EmitsOrAll takes left s lines (answer_of r) t
+OrAll-held (Ok x) h starved some = Ended h
+OrAll-held {takes = takes} {left = left} {s = s} {t = t} {lines = lines} (Err halt) h starved some = subst (λ q. EmitsOrAll takes left s lines (answer_of q) t) (sym starved) (NotHeld some h)
 
--- a growth is refused only for some bytes: where there are none, all lines are emitted
-pub Emitted-held : {S T : Type 0} {takes : S → ℕ → List ℕ → Result Next Fault → S → Type 0} {s t : S} {lines : List (ℕ × List ℕ)} {bytes : List ℕ} (r : Result T Halt) → Emitted takes s lines (Ok More) t → OnErr r (0 < length bytes) → bytes ≡ []
-    → Emitted takes s lines (answer_of r) t
-Emitted-held (Ok x) h some none = h
-Emitted-held (Err halt) h some none = absurd (omega (arith, some, ap length none))
+-- nor where there are none
+pub Emits-held : {S T : Type 0} {takes : S → ℕ → List ℕ → Result Next Fault → S → Type 0} {held left : List ℕ} {s : S} {lines : List (ℕ × List ℕ)} (r : Result T Halt) → 0 < length held → Emitted takes s lines (Ok More) s → OnErr r (r ≡ Err (Failed OutOfMemory))
+    → Emits takes held left s lines (answer_of r) s
+Emits-held (Ok x) some h starved = Whole h
+Emits-held {takes = takes} {held = held} {left = left} {s = s} {lines = lines} (Err halt) some h starved = subst (λ q. Emits takes held left s lines (answer_of q) s) (sym starved) (StarvedFirst some)
 
 -- nor where the stream would become too long
-pub Emits-refused : {S T : Type 0} {takes : S → ℕ → List ℕ → Result Next Fault → S → Type 0} {s : S} (lines : List (ℕ × List ℕ)) (r : Result T Halt) → r ≡ Err (Failed StreamTooLong) → Emits takes s lines (answer_of r) s
-Emits-refused {takes = takes} {s = s} lines r e = subst (λ q. Emits takes s lines (answer_of q) s) (sym e) Refused
+pub Emits-refused : {S T : Type 0} {takes : S → ℕ → List ℕ → Result Next Fault → S → Type 0} {held left : List ℕ} {s : S} (lines : List (ℕ × List ℕ)) (r : Result T Halt) → r ≡ Err (Failed StreamTooLong) → Emits takes held left s lines (answer_of r) s
+Emits-refused {takes = takes} {held = held} {left = left} {s = s} lines r e = subst (λ q. Emits takes held left s lines (answer_of q) s) (sym e) Refused
 
 -- lines that are the same are emitted alike
 pub Emitted-lines : {S : Type 0} {takes : S → ℕ → List ℕ → Result Next Fault → S → Type 0} {s t : S} {lines others : List (ℕ × List ℕ)} {answer : Result Next Fault} → lines ≡ others → Emitted takes s lines answer t → Emitted takes s others answer t
 Emitted-lines {takes = takes} {s = s} {t = t} {answer = answer} e h = subst (λ ls. Emitted takes s ls answer t) e h
 
-pub Emits-lines : {S : Type 0} {takes : S → ℕ → List ℕ → Result Next Fault → S → Type 0} {s t : S} {lines others : List (ℕ × List ℕ)} {answer : Result Next Fault} → lines ≡ others → Emits takes s lines answer t → Emits takes s others answer t
-Emits-lines {takes = takes} {s = s} {t = t} {answer = answer} e h = subst (λ ls. Emits takes s ls answer t) e h
+pub Emits-lines : {S : Type 0} {takes : S → ℕ → List ℕ → Result Next Fault → S → Type 0} {held left : List ℕ} {s t : S} {lines others : List (ℕ × List ℕ)} {answer : Result Next Fault} → lines ≡ others → Emits takes held left s lines answer t → Emits takes held left s others answer t
+Emits-lines {takes = takes} {held = held} {left = left} {s = s} {t = t} {answer = answer} e h = subst (λ ls. Emits takes held left s ls answer t) e h
+
+pub OrAll-lines : {S : Type 0} {takes : S → ℕ → List ℕ → Result Next Fault → S → Type 0} {left : List ℕ} {s t : S} {lines others : List (ℕ × List ℕ)} {answer : Result Next Fault} → lines ≡ others → EmitsOrAll takes left s lines answer t → EmitsOrAll takes left s others answer t
+OrAll-lines {takes = takes} {left = left} {s = s} {t = t} {answer = answer} e h = subst (λ ls. EmitsOrAll takes left s ls answer t) e h
+
+-- and so where the bytes that remain are the same
+pub Emits-rest : {S : Type 0} {takes : S → ℕ → List ℕ → Result Next Fault → S → Type 0} {held left other : List ℕ} {s t : S} {lines : List (ℕ × List ℕ)} {answer : Result Next Fault} → left ≡ other → Emits takes held left s lines answer t → Emits takes held other s lines answer t
+Emits-rest {takes = takes} {held = held} {s = s} {t = t} {lines = lines} {answer = answer} e h = subst (λ rest. Emits takes held rest s lines answer t) e h
 
 -- what holds in any case, holds where the answer is so
 pub OnOk-any : {T E P : Type 0} (r : Result T E) → P → OnOk r P

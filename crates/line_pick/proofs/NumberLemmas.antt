@@ -1,9 +1,9 @@
 -- Lines that are emitted without their numbers.
-use Rattle.std.proofs.Common.{◌≡◌, ℕ, ◌+◌, Bool, true, false, cond, List, [], ◌∷◌, ◌++◌, map, Result, Ok, refl, sym, ap, ◌∙◌, subst}
+use Rattle.std.proofs.Common.{◌≡◌, ℕ, ◌+◌, Bool, true, false, cond, List, [], ◌∷◌, map, Result, Ok, refl, ap, subst}
 use Rattle.line_pick.specs.declared.fault.Fault.{Fault}
 use Rattle.line_pick.specs.declared.sink.Next.{Next}
 use Rattle.line_pick.specs.declared.sink.Next.TheVariants.{More}
-use Rattle.line_pick.specs.Emitting.{Emits, Emitted, NoneLeft, OneMore, LastOne, Whole, Starved, Refused, as_numbered, numbered}
+use Rattle.line_pick.specs.Emitting.{Emits, EmitsOrAll, EmitsOrNone, Emitted, Begun, NotBegun, NoneLeft, OneMore, LastOne, Whole, StarvedFirst, StarvedLast, Refused, as_numbered, numbered}
 use Rattle.line_pick.proofs.EmittedLemmas.{EmittedOn}
 
 -- lines without their numbers
@@ -37,15 +37,6 @@ Emitted-renumbered {others = others} P step ((m, line') ∷ under) same p (LastO
     let is : line ≡ line' = (cc) in
     LastOne (subst (λ l. others s m l answer t) is (step s t number m line answer p h).0) last
 
--- a prefix of lines is one under other numbers too
-prefix-renumbered : (prefix rest under : List (ℕ × List ℕ)) → bare (prefix ++ rest) ≡ bare under → (f : List (ℕ × List ℕ)) × (r : List (ℕ × List ℕ)) × (under ≡ f ++ r) × (bare prefix ≡ bare f)
-prefix-renumbered [] rest under same = ([], under, refl, refl)
-prefix-renumbered (x ∷ prefix) rest [] same = absurd (cc)
-prefix-renumbered (x ∷ prefix) rest (y ∷ under) same =
-    let w = prefix-renumbered prefix rest under (cc) in
-    let first : x.1 ≡ y.1 = (cc) in
-    (y ∷ w.0, w.1, ap (λ ls. y ∷ ls) w.2, ap (λ l. l ∷ bare prefix) first ∙ ap (λ ls. y.1 ∷ ls) w.3)
-
 module _ {S : Type 0} (takes : S → ℕ → List ℕ → Result Next Fault → S → Type 0) where
   -- lines that are emitted under their numbers are emitted
   pub Emitted-taken : (is_numbered : Bool) {s t : S} {lines : List (ℕ × List ℕ)} {answer : Result Next Fault} → Emitted takes s lines answer t → Emitted (as_numbered is_numbered takes) s lines answer t
@@ -54,24 +45,22 @@ module _ {S : Type 0} (takes : S → ℕ → List ℕ → Result Next Fault → 
   Emitted-taken false (OneMore {number = number} h rest) = OneMore (number, h) (Emitted-taken false rest)
   Emitted-taken false (LastOne {number = number} h last) = LastOne (number, h) last
 
-  pub Emits-taken : (is_numbered : Bool) {s t : S} {lines : List (ℕ × List ℕ)} {answer : Result Next Fault} → Emits takes s lines answer t → Emits (as_numbered is_numbered takes) s lines answer t
-  Emits-taken is_numbered (Whole h) = Whole (Emitted-taken is_numbered h)
-  Emits-taken is_numbered (Starved prefix rest parts h) = Starved prefix rest parts (Emitted-taken is_numbered h)
-  Emits-taken is_numbered Refused = Refused
+  pub OrNone-taken : (is_numbered : Bool) {s t : S} {lines : List (ℕ × List ℕ)} {answer : Result Next Fault} → EmitsOrNone takes s lines answer t → EmitsOrNone (as_numbered is_numbered takes) s lines answer t
+  OrNone-taken is_numbered (Begun h) = Begun (Emitted-taken is_numbered h)
+  OrNone-taken is_numbered NotBegun = NotBegun
 
   -- lines are numbered or not as they were
-  pub Emits-same : {old new : Bool} {s t : S} {lines : List (ℕ × List ℕ)} {answer : Result Next Fault} → new ≡ old → Emits (as_numbered new takes) s lines answer t → Emits (as_numbered old takes) s lines answer t
-  Emits-same {s = s} {t = t} {lines = lines} {answer = answer} e h = subst (λ k. Emits (as_numbered k takes) s lines answer t) e h
+  pub OrAll-same : {old new : Bool} {left : List ℕ} {s t : S} {lines : List (ℕ × List ℕ)} {answer : Result Next Fault} → new ≡ old → EmitsOrAll (as_numbered new takes) left s lines answer t → EmitsOrAll (as_numbered old takes) left s lines answer t
+  OrAll-same {left = left} {s = s} {t = t} {lines = lines} {answer = answer} e h = subst (λ k. EmitsOrAll (as_numbered k takes) left s lines answer t) e h
 
   -- lines that are emitted under some numbers are emitted under any
   Emitted-under : {s t : S} {lines : List (ℕ × List ℕ)} {answer : Result Next Fault} (under : List (ℕ × List ℕ)) → bare lines ≡ bare under → Emitted (as_numbered false takes) s lines answer t → Emitted (as_numbered false takes) s under answer t
   Emitted-under under same h = Emitted-renumbered (λ _. Unit {0}) (λ s t n m line answer _ taken. (taken, tt)) under same tt h
 
-  Emits-under : {s t : S} {lines : List (ℕ × List ℕ)} {answer : Result Next Fault} (under : List (ℕ × List ℕ)) → bare lines ≡ bare under → Emits (as_numbered false takes) s lines answer t → Emits (as_numbered false takes) s under answer t
+  Emits-under : {held left : List ℕ} {s t : S} {lines : List (ℕ × List ℕ)} {answer : Result Next Fault} (under : List (ℕ × List ℕ)) → bare lines ≡ bare under → Emits (as_numbered false takes) held left s lines answer t → Emits (as_numbered false takes) held left s under answer t
   Emits-under under same (Whole h) = Whole (Emitted-under under same h)
-  Emits-under under same (Starved prefix rest parts h) =
-      let w = prefix-renumbered prefix rest under (ap bare (sym parts) ∙ same) in
-      Starved w.0 w.1 w.2 (Emitted-under w.0 w.3 h)
+  Emits-under under same (StarvedFirst some) = StarvedFirst some
+  Emits-under under same (StarvedLast some h) = StarvedLast some (Emitted-under under same h)
   Emits-under under same Refused = Refused
 
   module _ (test : List ℕ → Bool) (a b : ℕ) (lines : List (List ℕ)) where
@@ -80,8 +69,8 @@ module _ {S : Type 0} (takes : S → ℕ → List ℕ → Result Next Fault → 
     Emitted-moved true same {s} {t} {answer} h = subst (λ n. Emitted takes s (numbered test n lines) answer t) (same refl) h
     Emitted-moved false same h = Emitted-under (numbered test b lines) (bare-numbered test a b lines) h
 
-    pub Emits-moved : (is_numbered : Bool) → (is_numbered ≡ true → a ≡ b) → {s t : S} {answer : Result Next Fault} → Emits (as_numbered is_numbered takes) s (numbered test a lines) answer t → Emits (as_numbered is_numbered takes) s (numbered test b lines) answer t
-    Emits-moved true same {s} {t} {answer} h = subst (λ n. Emits takes s (numbered test n lines) answer t) (same refl) h
+    pub Emits-moved : (is_numbered : Bool) → (is_numbered ≡ true → a ≡ b) → {held left : List ℕ} {s t : S} {answer : Result Next Fault} → Emits (as_numbered is_numbered takes) held left s (numbered test a lines) answer t → Emits (as_numbered is_numbered takes) held left s (numbered test b lines) answer t
+    Emits-moved true same {held} {left} {s} {t} {answer} h = subst (λ n. Emits takes held left s (numbered test n lines) answer t) (same refl) h
     Emits-moved false same h = Emits-under (numbered test b lines) (bare-numbered test a b lines) h
 
     -- and so are the remaining lines

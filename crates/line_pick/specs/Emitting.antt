@@ -1,5 +1,5 @@
 -- How numbered lines are emitted to a sink, one after another.
-use Rattle.std.specs.Prelude.{◌≡◌, ◌≢◌, ℕ, ◌+◌, Bool, true, false, List, [], ◌∷◌, ◌++◌, filter, Result, Ok, Err}
+use Rattle.std.specs.Prelude.{◌≢◌, ℕ, ◌+◌, ◌<◌, Bool, true, false, List, [], ◌∷◌, filter, length, Result, Ok, Err}
 use Rattle.std.specs.List.{enumerate_from}
 use Rattle.line_pick.specs.declared.fault.Fault.{Fault}
 use Rattle.line_pick.specs.declared.fault.Fault.TheVariants.{OutOfMemory, StreamTooLong}
@@ -24,11 +24,13 @@ pub data Emitted {S : Type 0} (takes : S → ℕ → List ℕ → Result Next Fa
   OneMore : {s t u : S} {number : ℕ} {line : List ℕ} {rest : List (ℕ × List ℕ)} {answer : Result Next Fault} → takes s number line (Ok More) t → Emitted takes t rest answer u → Emitted takes s ((number, line) ∷ rest) answer u
   LastOne : {s t : S} {number : ℕ} {line : List ℕ} {rest : List (ℕ × List ℕ)} {answer : Result Next Fault} → takes s number line answer t → answer ≢ Ok More → Emitted takes s ((number, line) ∷ rest) answer t
 
--- lines are emitted; or memory ran out after a prefix of them; or none is, where the stream would become too long
-pub data Emits {S : Type 0} (takes : S → ℕ → List ℕ → Result Next Fault → S → Type 0) : S → List (ℕ × List ℕ) → Result Next Fault → S → Type 0 where
-  Whole : {s t : S} {lines : List (ℕ × List ℕ)} {answer : Result Next Fault} → Emitted takes s lines answer t → Emits takes s lines answer t
-  Starved : {s t : S} {lines : List (ℕ × List ℕ)} (prefix rest : List (ℕ × List ℕ)) → lines ≡ prefix ++ rest → Emitted takes s prefix (Ok More) t → Emits takes s lines (Err OutOfMemory) t
-  Refused : {s : S} {lines : List (ℕ × List ℕ)} → Emits takes s lines (Err StreamTooLong) s
+-- Lines are emitted. Or memory ran out: before the first of them, where bytes were held before, or after the last, where
+-- bytes remain to be held. Or none is, where the stream would become too long.
+pub data Emits {S : Type 0} (takes : S → ℕ → List ℕ → Result Next Fault → S → Type 0) (held rest : List ℕ) : S → List (ℕ × List ℕ) → Result Next Fault → S → Type 0 where
+  Whole : {s t : S} {lines : List (ℕ × List ℕ)} {answer : Result Next Fault} → Emitted takes s lines answer t → Emits takes held rest s lines answer t
+  StarvedFirst : {s : S} {lines : List (ℕ × List ℕ)} → 0 < length held → Emits takes held rest s lines (Err OutOfMemory) s
+  StarvedLast : {s t : S} {lines : List (ℕ × List ℕ)} → 0 < length rest → Emitted takes s lines (Ok More) t → Emits takes held rest s lines (Err OutOfMemory) t
+  Refused : {s : S} {lines : List (ℕ × List ℕ)} → Emits takes held rest s lines (Err StreamTooLong) s
 
 -- the answer where emitting ends so
 abbrev pub answer_to : Halt → Result Next Fault
@@ -38,3 +40,15 @@ answer_to (Failed fault) = Err fault
 abbrev pub answer_of : {T : Type 0} → Result T Halt → Result Next Fault
 answer_of (Ok _) = Ok More
 answer_of (Err halt) = answer_to halt
+
+-- ---- inside the crate: the lines of a part of a text
+
+-- lines are emitted, or memory ran out before the first of them
+pub data EmitsOrNone {S : Type 0} (takes : S → ℕ → List ℕ → Result Next Fault → S → Type 0) : S → List (ℕ × List ℕ) → Result Next Fault → S → Type 0 where
+  Begun : {s t : S} {lines : List (ℕ × List ℕ)} {answer : Result Next Fault} → Emitted takes s lines answer t → EmitsOrNone takes s lines answer t
+  NotBegun : {s : S} {lines : List (ℕ × List ℕ)} → EmitsOrNone takes s lines (Err OutOfMemory) s
+
+-- lines are emitted, or memory ran out after the last of them, where bytes remain to be held
+pub data EmitsOrAll {S : Type 0} (takes : S → ℕ → List ℕ → Result Next Fault → S → Type 0) (rest : List ℕ) : S → List (ℕ × List ℕ) → Result Next Fault → S → Type 0 where
+  Ended : {s t : S} {lines : List (ℕ × List ℕ)} {answer : Result Next Fault} → Emitted takes s lines answer t → EmitsOrAll takes rest s lines answer t
+  NotHeld : {s t : S} {lines : List (ℕ × List ℕ)} → 0 < length rest → Emitted takes s lines (Ok More) t → EmitsOrAll takes rest s lines (Err OutOfMemory) t

@@ -1,5 +1,5 @@
 -- What a picker does with a piece of a stream, and at its end.
-use Rattle.std.specs.Prelude.{◌≡◌, ◌≢◌, ◌<◌, ◌≤◌, ◌↔◌, ℕ, ◌+◌, ◌^◌, List, [], ◌++◌, length, if◌then◌else◌, Result, Ok, Err, IfSome}
+use Rattle.std.specs.Prelude.{◌≡◌, ◌≢◌, ◌≤◌, ◌↔◌, ℕ, ◌+◌, ◌^◌, List, [], ◌++◌, length, if◌then◌else◌, Result, Ok, Err, IfSome}
 use Rattle.lit_base.specs.Lines.{ended_lines, last_line, open_rest}
 use Rattle.line_pick.specs.declared.fault.Fault.{Fault}
 use Rattle.line_pick.specs.declared.fault.Fault.TheVariants.{StreamTooLong}
@@ -28,16 +28,13 @@ pub record IsFed (old : Picking) (piece : List ℕ) (new : Picking) : Type 0 whe
   pub held : Keeps old.has_bytes (selects old.plan old.has_empty old.rule) (most_kept old.plan) new.held (open_rest (old.held ++ piece))
 
 -- a running picker is fed: it emits the selected lines that the piece ends, and is refused exactly where the bytes fed
--- would pass 2^64 - 1. An empty piece wants no memory. Where nothing is held, and a newline ends the piece, only the
--- sink may want memory
+-- would pass 2^64 - 1. An empty piece wants no memory
 pub record Feeds {S : Type 0} (takes : S → ℕ → List ℕ → Result Next Fault → S → Type 0) (old : Picking) (piece : List ℕ) (sink : S) (answer : Result Next Fault) (new : Picking) (left : S) : Type 0 where
-  pub emitted : Emits (as_numbered old.is_numbered takes) sink (picked old (ended_lines (old.held ++ piece))) answer left
+  pub emitted : Emits (as_numbered old.is_numbered takes) old.held (open_rest (old.held ++ piece)) sink (picked old (ended_lines (old.held ++ piece))) answer left
   pub more : answer ≡ Ok More → IsFed old piece new
   pub state : new.state ≡ fed_state answer
   pub too_long : (answer ≡ Err StreamTooLong) ↔ (2 ^ 64 ≤ old.bytes + length piece)
   pub idle : piece ≡ [] → answer ≡ Ok More
-  pub unkept : old.held ≡ [] → open_rest piece ≡ [] → old.bytes + length piece < 2 ^ 64
-      → Emitted (as_numbered old.is_numbered takes) sink (picked old (ended_lines piece)) answer left
 
 -- a running picker is finished: it emits the open line, if it is a line and selected
 pub record Finishes {S : Type 0} (takes : S → ℕ → List ℕ → Result Next Fault → S → Type 0) (old : Picking) (sink : S) (answer : Result Next Fault) (new : Picking) (left : S) : Type 0 where

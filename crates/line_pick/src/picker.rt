@@ -135,8 +135,9 @@ impl<'p> Picker<'p> {
     ///
     /// The line to which the sink answers `Stop` or a fault is the last one emitted, and `feed` returns the same
     /// answer. `StreamTooLong` comes if the bytes fed would pass 2^64 - 1, before any line is emitted. `OutOfMemory`
-    /// also comes if the open line cannot be kept, after the lines emitted so far. A picker that stopped, failed or
-    /// finished emits nothing: it returns `Stop`, or its fault again.
+    /// also comes if bytes of an open line cannot be kept: of the line held before, before any line is emitted, or of
+    /// the last line, after all are. A picker that stopped, failed or finished emits nothing: it returns `Stop`, or its
+    /// fault again.
     pub fn feed<S: Sink>(&mut self, piece: &[u8], sink: &mut S) -> Result<Next, Fault>
         ensures running { self.old.state ≡ Running
             → Feeds S.takes self.old piece.now sink.old result self.new sink.new }

@@ -2,7 +2,7 @@
 ghost use Rattle.std.specs.Prelude.{◌≡◌, ◌≢◌, ◌↔◌, ◌<◌, ◌≤◌, ◌+◌, ◌^◌, ◌++◌, ◌∷◌, [], Err, IfOk, IsOk, OnOk, OnErr, length, slice_range, true, vec_len};
 ghost use Rattle.std.specs.Option.{option_copied};
 ghost use Rattle.lit_base.specs.Lines.{IsOnePiece, ended_lines, last_line, open_rest};
-ghost use Rattle.line_pick.specs.Emitting.{Emits, Emitted, answer_of, as_numbered, numbered};
+ghost use Rattle.line_pick.specs.Emitting.{Emits, EmitsOrAll, EmitsOrNone, Emitted, answer_of, as_numbered, numbered};
 ghost use Rattle.line_pick.specs.Matching.{IsByPlan, picks};
 ghost use Rattle.line_pick.specs.OpenLines.{Decides, IsKept, Keeps, most_kept};
 ghost use Rattle.line_pick.specs.Progresses.{IsSound};
@@ -63,7 +63,8 @@ impl Progress {
         ensures sound { IsSound self.new }
         ensures seen { self.new.has_bytes ≡ self.old.has_bytes }
         ensures numbered { self.new.is_numbered ≡ self.old.is_numbered }
-        ensures emitted { Emits (as_numbered self.old.is_numbered S.takes) sink.old
+        ensures emitted { Emits (as_numbered self.old.is_numbered S.takes)
+            self.old.held.items (open_rest (self.old.held.items ++ piece.now)) sink.old
             (numbered (picks search.old.matcher) self.old.lines (ended_lines (self.old.held.items ++ piece.now)))
             (answer_of result) sink.new }
         ensures held { OnOk result (Keeps self.old.has_bytes (picks search.old.matcher) (most_kept (option_copied search.old.matcher.plan)) self.new.held.items
@@ -74,12 +75,6 @@ impl Progress {
         ensures too_long { (result ≡ Err (Halt.Failed Fault.StreamTooLong))
             ↔ (2 ^ 64 ≤ self.old.bytes + length piece.now) }
         ensures idle { piece.now ≡ [] → IsOk result }
-
-        // Where nothing has to be held, only the sink may want memory.
-        ensures unkept { self.old.held.items ≡ [] → open_rest piece.now ≡ []
-            → self.old.bytes + length piece.now < 2 ^ 64
-            → Emitted (as_numbered self.old.is_numbered S.takes) sink.old
-            (numbered (picks search.old.matcher) self.old.lines (ended_lines piece.now)) (answer_of result) sink.new }
     {
         self.bytes = longer(self.bytes, piece)?;
         let is_fresh = self.held.is_empty();
@@ -188,7 +183,7 @@ impl Progress {
         ensures sound { IsSound self.new }
         ensures seen { self.new.has_bytes ≡ self.old.has_bytes }
         ensures numbered { self.new.is_numbered ≡ self.old.is_numbered }
-        ensures emitted { Emits S.takes sink.old
+        ensures emitted { EmitsOrNone S.takes sink.old
             (numbered (picks matcher.entry) self.old.lines ((self.old.held.items ++ prefix.now) ∷ []))
             (answer_of result) sink.new }
         ensures held { OnOk result (self.new.held.items ≡ []) }
@@ -218,7 +213,7 @@ impl Progress {
         ensures sound { IsSound self.new }
         ensures seen { self.new.has_bytes ≡ self.old.has_bytes }
         ensures numbered { self.new.is_numbered ≡ self.old.is_numbered }
-        ensures emitted { Emits (as_numbered self.old.is_numbered S.takes) sink.old
+        ensures emitted { EmitsOrAll (as_numbered self.old.is_numbered S.takes) (open_rest text.now) sink.old
             (numbered (picks search.old.matcher) self.old.lines (ended_lines text.now))
             (answer_of result) sink.new }
         ensures held { OnOk result (Keeps self.old.has_bytes (picks search.old.matcher) (most_kept (option_copied search.old.matcher.plan)) self.new.held.items (open_rest text.now)) }
@@ -227,9 +222,6 @@ impl Progress {
         ensures bytes { self.new.bytes ≡ self.old.bytes }
         ensures faults { result ≢ Err (Halt.Failed Fault.StreamTooLong) }
         ensures idle { text.now ≡ [] → IsOk result }
-        ensures unkept { open_rest text.now ≡ []
-            → Emitted (as_numbered self.old.is_numbered S.takes) sink.old
-            (numbered (picks search.old.matcher) self.old.lines (ended_lines text.now)) (answer_of result) sink.new }
     {
         // Read here, it is known to fit, and so is the number of lines.
         let _bytes = self.bytes;

@@ -13,7 +13,7 @@ use Rattle.line_pick.specs.Emitting.{answer_of}
 use Rattle.line_pick.specs.Matching.{picks}
 use Rattle.line_pick.specs.Picking.{Picking, fed_state}
 use Rattle.line_pick.proofs.EmittedLemmas.{answer_of-IsOk, answer_to-More}
-use Rattle.line_pick.proofs.NumberLemmas.{Emits-moved, Emitted-moved, shown-more, shown-same}
+use Rattle.line_pick.proofs.NumberLemmas.{Emits-moved, shown-more, shown-same}
 use Rattle.line_pick.proofs.picker.Picker.feed.Goals as goal
 
 -- where the sink wants more, all was taken
@@ -53,5 +53,4 @@ returns-clause-running g c = rw (← c.self.view_is) (λ running.
       state = c.after_feed-self-inside.ensures;
       too_long = search rules;
       idle = λ none. c.answered-answer.ensures ∙ answer_of-IsOk c.take.result (c.take.ensures.idle none);
-      unkept = λ held closed few. rw c.answered-answer.ensures (Emitted-moved g.S.Sink.takes (picks m) old.lines (cond old.is_numbered old.lines 0) (ended_lines c.args.piece.now) old.is_numbered (shown-same old.is_numbered old.lines) (c.take.ensures.unkept held closed few));
     })

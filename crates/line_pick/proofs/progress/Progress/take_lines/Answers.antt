@@ -1,13 +1,13 @@
 -- The lines of the text are those up to its last newline.
-use Rattle.std.proofs.Common.{◌+◌, ◌++◌, length, arith, sym, ap, ◌∙◌, subst}
+use Rattle.std.proofs.Common.{ℕ, ◌+◌, ◌<◌, List, ◌++◌, OnErr, length, arith, sym, ap, ◌∙◌, subst}
 use Rattle.std.specs.Option.{option_copied}
 use Rattle.lit_base.specs.Lines.{ended_lines}
 use Rattle.std.proofs.lemmas.Result.{err_from_is_err_and, on_ok_weaker}
-use Rattle.line_pick.specs.Emitting.{Whole, numbered}
+use Rattle.line_pick.specs.Emitting.{Ended, numbered}
 use Rattle.line_pick.specs.Matching.{picks}
 use Rattle.line_pick.specs.OpenLines.{Keeps, most_kept}
 use Rattle.line_pick.specs.declared.matcher.LineSearch.{LineSearch}
-use Rattle.line_pick.proofs.EmittedLemmas.{Emitted-held, Emitted-lines, Emitted-nothing, Emits-held, OnOk-any, answer_to-More}
+use Rattle.line_pick.proofs.EmittedLemmas.{Emitted-lines, Emitted-nothing, OnOk-any, OrAll-held, answer_to-More}
 use Rattle.line_pick.proofs.CutLemmas.{ended_lines-cut, open_rest-cut, length-cut}
 use Rattle.line_pick.proofs.progress.Progress.take_lines.Goals as goal
 
@@ -18,12 +18,13 @@ pub returns-in_err-self-clause-emitted : goal.returns-in_err-self-clause-emitted
 returns-in_err-self-clause-emitted g c =
     let p = err_from_is_err_and c.from_residual.result c.from_residual.ensures.1 in
     let same = ap (numbered (picks c.args.search.now.matcher) c.args.self.now.lines) (sym (ended_lines-cut c.split_ended.ensures)) in
-    rw (p.1, p.2) (Whole (Emitted-lines same c.in_err-self.ensures.emitted))
+    rw (p.1, p.2) (Ended (Emitted-lines same c.in_err-self.ensures.emitted))
 
 pub returns-clause-emitted : goal.returns-clause-emitted
 returns-clause-emitted g c =
     let same = ap (numbered (picks c.args.search.now.matcher) c.args.self.now.lines) (sym (ended_lines-cut c.split_ended.ensures)) in
-    Emits-held c.hold_open.result (Emitted-lines same c.in_ok-self.ensures.emitted) c.hold_open.ensures.starved
+    OrAll-held c.hold_open.result (Emitted-lines same c.in_ok-self.ensures.emitted) c.hold_open.ensures.starved
+    (subst (λ (rest : List ℕ). OnErr c.hold_open.result (0 < length rest)) (sym (open_rest-cut c.split_ended.ensures)) c.hold_open.ensures.some)
 
 pub returns-clause-held : goal.returns-clause-held
 returns-clause-held g c =
@@ -40,14 +41,3 @@ unfolding ended_lines
 returns-in_err-self-clause-idle g c = λ none.
     let nothing = sym (ended_lines-cut c.split_ended.ensures) ∙ ap ended_lines none in
     absurd (answer_to-More c.in_err-self.field-0.0 (Emitted-nothing (ap (numbered (picks c.args.search.now.matcher) c.args.self.now.lines) nothing) c.in_err-self.ensures.emitted))
-
-pub returns-in_err-self-clause-unkept : goal.returns-in_err-self-clause-unkept
-returns-in_err-self-clause-unkept g c = λ closed.
-    let p = err_from_is_err_and c.from_residual.result c.from_residual.ensures.1 in
-    let same = ap (numbered (picks c.args.search.now.matcher) c.args.self.now.lines) (sym (ended_lines-cut c.split_ended.ensures)) in
-    rw (p.1, p.2) (Emitted-lines same c.in_err-self.ensures.emitted)
-
-pub returns-clause-unkept : goal.returns-clause-unkept
-returns-clause-unkept g c = λ closed.
-    let same = ap (numbered (picks c.args.search.now.matcher) c.args.self.now.lines) (sym (ended_lines-cut c.split_ended.ensures)) in
-    Emitted-held c.hold_open.result (Emitted-lines same c.in_ok-self.ensures.emitted) c.hold_open.ensures.some (sym (open_rest-cut c.split_ended.ensures) ∙ closed)
