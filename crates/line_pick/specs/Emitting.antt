@@ -24,8 +24,8 @@ pub data Emitted {S : Type 0} (takes : S → ℕ → List ℕ → Result Next Fa
   OneMore : {s t u : S} {number : ℕ} {line : List ℕ} {rest : List (ℕ × List ℕ)} {answer : Result Next Fault} → takes s number line (Ok More) t → Emitted takes t rest answer u → Emitted takes s ((number, line) ∷ rest) answer u
   LastOne : {s t : S} {number : ℕ} {line : List ℕ} {rest : List (ℕ × List ℕ)} {answer : Result Next Fault} → takes s number line answer t → answer ≢ Ok More → Emitted takes s ((number, line) ∷ rest) answer t
 
--- Lines are emitted. Or memory ran out: before the first of them, where bytes were held before, or after the last, where
--- bytes remain to be held. Or none is, where the stream would become too long.
+-- Lines are emitted. Or memory ran out: before the first of them, where bytes were held before, or after the last,
+-- where bytes remain to be held. Or none is, where the stream would become too long.
 pub data Emits {S : Type 0} (takes : S → ℕ → List ℕ → Result Next Fault → S → Type 0) (held rest : List ℕ) : S → List (ℕ × List ℕ) → Result Next Fault → S → Type 0 where
   Whole : {s t : S} {lines : List (ℕ × List ℕ)} {answer : Result Next Fault} → Emitted takes s lines answer t → Emits takes held rest s lines answer t
   StarvedFirst : {s : S} {lines : List (ℕ × List ℕ)} → 0 < length held → Emits takes held rest s lines (Err OutOfMemory) s

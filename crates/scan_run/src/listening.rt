@@ -34,7 +34,8 @@ pub fn listen<R: Threads + Wait + Sync, O: ByteOut, E: ByteOut>(
     err: &mut E,
 ) -> Status
     requires { All (IsOf store.now) loaded.now }
-    ensures reported { ReportsSome connections.count result (O.has_failed out.new) (E.has_failed err.old) (E.has_failed err.new)
+    ensures reported { ReportsSome connections.count result (O.has_failed out.new)
+        (E.has_failed err.old) (E.has_failed err.new)
         (O.written out.old) (O.written out.new) (E.written err.old) (E.written err.new) }
 
     // A write that failed shows in the status.

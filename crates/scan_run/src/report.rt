@@ -16,7 +16,8 @@ pub(crate) fn report<O: ByteOut, E: ByteOut>(
     out: &mut O,
     err: &mut E,
 ) -> Status
-    ensures reported { Reports endings.now faulty result (O.has_failed out.new) (E.has_failed err.old) (E.has_failed err.new)
+    ensures reported { Reports endings.now faulty result (O.has_failed out.new)
+        (E.has_failed err.old) (E.has_failed err.new)
         (O.written out.old) (O.written out.new) (E.written err.old) (E.written err.new) }
 
     // A write that failed shows in the status.
