@@ -102,9 +102,9 @@ pub wrong_entry : (version : Version) (bytes : List ℕ) (e : Stop) → AreBytes
 wrong_entry version bytes stop.OutOfMemory are wrong = tt
 wrong_entry version bytes (stop.Wrong w) are wrong = entry_bad version bytes w are wrong
 
--- one more entry is written after those before it
-pub entries_more : (prefix old new : List ℕ) (plans : List Plan) (i : ℕ) (p : Plan) → i < length plans → p ≡ get_or plans i p → old ≡ prefix ++ flat_map plan_text (take i plans)
-    → new ≡ old ++ plan_text p → new ≡ prefix ++ flat_map plan_text (take (i + 1) plans)
-entries_more prefix old new plans i p within is so_far one =
-    let last : take (i + 1) plans ≡ take i plans ++ p ∷ [] = take_more plans i p within ∙ ap (λ (q : Plan). take i plans ++ q ∷ []) (sym is) in
-    one ∙ ap (λ (t : List ℕ). t ++ plan_text p) so_far ∙ flat_map_more plan_text prefix (take i plans) p ∙ ap (λ (ps : List Plan). prefix ++ flat_map plan_text ps) (sym last)
+-- one more element is written after those before it
+pub texts_more : {A : Type 0} (text : A → List ℕ) (prefix old new : List ℕ) (all : List A) (i : ℕ) (none x : A) → i < length all → x ≡ get_or all i none
+    → old ≡ prefix ++ flat_map text (take i all) → new ≡ old ++ text x → new ≡ prefix ++ flat_map text (take (i + 1) all)
+texts_more {A} text prefix old new all i none x within is so_far one =
+    let last : take (i + 1) all ≡ take i all ++ x ∷ [] = take_more all i none within ∙ ap (λ (y : A). take i all ++ y ∷ []) (sym is) in
+    one ∙ ap (λ (t : List ℕ). t ++ text x) so_far ∙ flat_map_more text prefix (take i all) x ∙ ap (λ (ys : List A). prefix ++ flat_map text ys) (sym last)
