@@ -15,7 +15,7 @@ use nib_mask::{ByteMasks, Masks};
 
 /// A prefilter: it passes the positions of a text at which a literal may end. Each kind is searched by a loop of its
 /// own.
-#[derive(Clone, Copy, Debug, PartialEq, Eq)]
+#[derive(Clone, Copy, Debug)]
 pub enum Prefilter {
     /// The tables of a filter of at most eight buckets, for any number of literals.
     Nibbles(ByteMasks),
