@@ -70,9 +70,19 @@ fn text_of(alloc: Global, certificate: &Certificate) -> Result<String, AllocErro
     Ok(text)
 }
 
-/// Ends and potentials fit the fields of a text.
-fn numbers_law(ends: &[u16], potentials: &[u64])
+/// A certificate of this shape has a text: its numbers fit their fields.
+fn text_law(certificate: &Certificate)
+    requires { IsShaped certificate.now }
+    ensures { HasText certificate.now }
+{
+    let ends = certificate.ends.as_slice();
+    numbers_law(ends, certificate.cost, &certificate.potentials);
+}
+
+/// Machine numbers fit the fields of a text.
+fn numbers_law(ends: &[u16], cost: u64, potentials: &[u64])
     ensures ends { All (λ e. e < 2 ^ 16) ends.now }
+    ensures cost { cost < 2 ^ 64 }
     ensures potentials { All (λ h. h < 2 ^ 64) potentials.now }
 {
 }
@@ -95,7 +105,7 @@ pub fn write_cert<W: ByteOut>(
     ensures err { OnErr result
         (AppendsPart (W.written out.old) (W.written out.new) (spelling certificate.now)) }
     // `read_cert` reads the bytes that are written.
-    ensures text { HasText certificate.now }
+    ensures text { OnOk result (HasText certificate.now) }
     ensures same { result ≡ Err Fault.OutOfMemory → out.new ≡ out.old }
 
     // `WriteFault` is returned only if a write failed.
@@ -103,10 +113,12 @@ pub fn write_cert<W: ByteOut>(
     ensures flag { result ≢ Err Fault.WriteFault → W.has_failed out.new ≡ W.has_failed out.old }
     ensures faults { IfErr result IsWritersFault }
 {
-    numbers_law(certificate.ends.as_slice(), &certificate.potentials);
     let text = text_of(alloc, certificate)?;
     match write_all(out, text.as_bytes()) {
-        Ok(()) => Ok(()),
+        Ok(()) => {
+            text_law(certificate);
+            Ok(())
+        }
         Err(Failed) => Err(Fault::WriteFault),
     }
 }
