@@ -1,5 +1,7 @@
 //! What each limit, each refused call and each place of a fault makes of a transfer.
-use byte_io::{ByteIn, ByteOut, CutIn, CutOut, Failed, MAX_TURNS, ReadError, read_to_end, write_all};
+use byte_io::{
+    ByteIn, ByteOut, CutIn, CutOut, Failed, MAX_TURNS, ReadError, read_to_end, write_all,
+};
 use std::alloc::Global;
 
 const TEXT: &[u8] = b"abcdefg";

@@ -84,8 +84,7 @@ fn numbers_law(ends: &[u16], cost: u64, potentials: &[u64])
     ensures ends { All (λ e. e < 2 ^ 16) ends.now }
     ensures cost { cost < 2 ^ 64 }
     ensures potentials { All (λ h. h < 2 ^ 64) potentials.now }
-{
-}
+{}
 
 /// Writes the text of a certificate. `read_cert` reads it as the same certificate, unless memory runs out.
 ///

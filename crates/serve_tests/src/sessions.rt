@@ -283,8 +283,22 @@ fn answers_by<R: Threads + Wait + Sync>(
     let (one, other) = (Session::new(store), Session::new(store));
     let (one, other) = both_asked(rt, alloc, one, CAT, other, con)?;
     let (cat, con) = (number_in(&one.replies)?, number_in(&other.replies)?);
-    let (one, other) = both_asked(rt, alloc, one.session, Ask::Open(1, cat), other.session, Ask::Open(1, con))?;
-    let (one, other) = both_asked(rt, alloc, one.session, Ask::Open(2, con), other.session, Ask::Open(2, cat))?;
+    let (one, other) = both_asked(
+        rt,
+        alloc,
+        one.session,
+        Ask::Open(1, cat),
+        other.session,
+        Ask::Open(1, con),
+    )?;
+    let (one, other) = both_asked(
+        rt,
+        alloc,
+        one.session,
+        Ask::Open(2, con),
+        other.session,
+        Ask::Open(2, cat),
+    )?;
     let text = Ask::Feed(1, b"concat");
     let (one, other) = both_asked(rt, alloc, one.session, text, other.session, text)?;
     let first = [all_said(&one.replies), all_said(&other.replies)];

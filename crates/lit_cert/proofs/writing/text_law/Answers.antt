@@ -10,7 +10,7 @@ returns c =
     record {
       rows = c.requires.rows;
       literals = c.requires.literals;
-      ends = record { some = c.requires.ends; few = c.requires.few_ends; small = subst (All (λ (e : ℕ). e < 2 ^ 16)) ends c.numbers_law.ensures.ends; };
+      ends = record { some = c.requires.ends; few = c.requires.few_ends; small = subst (All (λ (e : ℕ). e < 2 ^ 16)) ends c.numbers_law.ensures.ends };
       small_cost = subst (λ (n : ℕ). n < 2 ^ 64) (ap (λ (p : CertificateParts). p.cost) c.certificate.view_is) c.numbers_law.ensures.cost;
       small_potentials = subst (All (λ (h : ℕ). h < 2 ^ 64)) potentials c.numbers_law.ensures.potentials;
     }
