@@ -269,62 +269,47 @@ fn both_asked<'s, R: Threads + Wait + Sync>(
     }
 }
 
-/// What two sessions answered, each in a thread of its own.
-type Pair = [Replies; 2];
+/// Two sessions of a store, each after an Open of the number that the other got.
+fn both_opened<'s, R: Threads + Wait + Sync>(
+    rt: &R,
+    alloc: Global,
+    one: Answered<'s>,
+    other: Answered<'s>,
+) -> Option<(Answered<'s>, Answered<'s>)>
+    requires { one.session.store ≡ other.session.store }
+    ensures { IfSome result (λ met. met.0.session.store ≡ met.1.session.store) }
+{
+    let of_one = Ask::Open(7, number_in(&other.replies)?);
+    let of_other = Ask::Open(7, number_in(&one.replies)?);
+    both_asked(rt, alloc, one.session, of_one, other.session, of_other)
+}
 
-/// Two sessions of a store in two threads publish a plan each. Stream 1 of each is opened by its own plan, stream 2 by
-/// the other's. The answers to `concat` in stream 1, then those in stream 2.
+/// What two sessions of a store in two threads answer to `concat`, each by the plan that the other published.
 fn answers_by<R: Threads + Wait + Sync>(
     rt: &R,
     alloc: Global,
     store: &PlanStore,
-) -> Option<[Pair; 2]> {
+) -> Option<(Replies, Replies)> {
     let con = Ask::Publish(Fold::No, Profile::Eight, &[b"con"]);
     let (one, other) = (Session::new(store), Session::new(store));
     let (one, other) = both_asked(rt, alloc, one, CAT, other, con)?;
-    let (cat, con) = (number_in(&one.replies)?, number_in(&other.replies)?);
-    let (one, other) = both_asked(
-        rt,
-        alloc,
-        one.session,
-        Ask::Open(1, cat),
-        other.session,
-        Ask::Open(1, con),
-    )?;
-    let (one, other) = both_asked(
-        rt,
-        alloc,
-        one.session,
-        Ask::Open(2, con),
-        other.session,
-        Ask::Open(2, cat),
-    )?;
-    let text = Ask::Feed(1, b"concat");
-    let (one, other) = both_asked(rt, alloc, one.session, text, other.session, text)?;
-    let first = [all_said(&one.replies), all_said(&other.replies)];
-    let text = Ask::Feed(2, b"concat");
-    let (one, other) = both_asked(rt, alloc, one.session, text, other.session, text)?;
-    Some([first, [all_said(&one.replies), all_said(&other.replies)]])
+    let (one, other) = both_opened(rt, alloc, one, other)?;
+    let (one, other) = both_asked(rt, alloc, one.session, CONCAT, other.session, CONCAT)?;
+    Some((all_said(&one.replies), all_said(&other.replies)))
 }
 
 /// The same of a new store.
-fn answers_of_two<R: Threads + Wait + Sync>(rt: &R, alloc: Global) -> Option<[Pair; 2]> {
+fn answers_of_two<R: Threads + Wait + Sync>(rt: &R, alloc: Global) -> Option<(Replies, Replies)> {
     let store = PlanStore::new(alloc).ok()?;
     answers_by(rt, alloc, &store)
 }
 
-/// The replies to `concat` in a stream in which one literal ends, at this place.
-fn of_concat(stream: u32, end: u64) -> Replies {
-    [
-        Some(ReplyKind::Hits(stream, 1, end)),
-        Some(ReplyKind::Fed(stream, 6)),
-        None,
-    ]
-}
-
 #[test]
-fn finds_in_each_of_two_threads_by_its_own_plan_and_the_other(rt: HostRuntime) {
-    let own = [of_concat(1, 6), of_concat(1, 3)];
-    let others = [of_concat(2, 3), of_concat(2, 6)];
-    assert_eq!(rt; answers_of_two(&rt, rt.alloc()), Some([own, others]));
+fn opens_in_each_of_two_threads_what_the_other_published(rt: HostRuntime) {
+    let of_con = [
+        Some(ReplyKind::Hits(7, 1, 3)),
+        Some(ReplyKind::Fed(7, 6)),
+        None,
+    ];
+    assert_eq!(rt; answers_of_two(&rt, rt.alloc()), Some((of_con, OF_CONCAT)));
 }
