@@ -37,7 +37,7 @@ fn texts(alloc: Global, words: &[&str]) -> Result<Vec<String>, AllocError> {
     Ok(copies)
 }
 
-/// `f` with a line, `g` with another, `none`, and a standard input that fails behind `a\nba`.
+/// `f` with a line, `g` with another, `none`, and a standard input that fails after `a\nba`.
 fn borrowed(alloc: Global) -> Result<BorrowedTexts<'static>, AllocError> {
     let f = ("f", Some(Text::whole(b"a cat\ndog\n")));
     let g = ("g", Some(Text::whole(b"b\na")));

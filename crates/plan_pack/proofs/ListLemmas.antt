@@ -11,7 +11,7 @@ use Rattle.lit_base.specs.declared.fault.Fault.{Fault}
 use Rattle.lit_base.specs.declared.fold.Fold.{Fold}
 use Rattle.lit_base.specs.declared.lit_list.Normal.{Normal}
 use Rattle.plan_pack.specs.Lists.{ArePlaces}
-use Rattle.plan_pack.specs.Taken.{IsThere, NamesStop, OpensFirst, TakesList, TakesPlaces}
+use Rattle.plan_pack.specs.Taken.{CanBeOpened, NamesStop, OpensBeforeMemory, TakesList, TakesPlaces}
 use Rattle.plan_pack.specs.declared.notation.Reading.{Reading}
 use Rattle.plan_pack.specs.declared.stop.Refusal.TheVariants.{NoLiterals}
 use Rattle.plan_pack.specs.declared.stop.Stop.{Stop}
@@ -60,15 +60,15 @@ opens-some : {I : Type 0} (f : I → Option Coming) (input : I) (source : Option
 opens-some f input None opens = λ none. (let bad : false ≡ true = opens in (cc))
 opens-some f input (Some c) opens = λ none. (cc)
 
-is-there : {I : Type 0} (f : I → Option Coming) (input : I) (known : Option Sources) (name : List ℕ) → IfSome known (λ s. OpensAs {I = I} f (taken_by (ask_of name) s) (Ok input)) → IsThere known name
-is-there f input None name opens = tt
-is-there f input (Some s) name opens = opens-some f input (taken_by (ask_of name) s) opens
+can-open : {I : Type 0} (f : I → Option Coming) (input : I) (known : Option Sources) (name : List ℕ) → IfSome known (λ s. OpensAs {I = I} f (taken_by (ask_of name) s) (Ok input)) → CanBeOpened known name
+can-open f input None name opens = tt
+can-open f input (Some s) name opens = opens-some f input (taken_by (ask_of name) s) opens
 
--- so whatever came of it came behind that
-pub there-first : {T : Type 0} (known : Option Sources) (name : List ℕ) (r : Result T Stop) → IsThere known name → OpensFirst known name r
-there-first known name (Ok x) there = there
-there-first known name (Err stop) there = λ memory. there
+-- so whatever came of it came after that
+pub open-before-memory : {T : Type 0} (known : Option Sources) (name : List ℕ) (r : Result T Stop) → CanBeOpened known name → OpensBeforeMemory known name r
+open-before-memory known name (Ok x) there = there
+open-before-memory known name (Err stop) there = λ memory. there
 
-pub opened-first : {I T : Type 0} (f : I → Option Coming) (input : I) (known : Option Sources) (name : List ℕ) (r : Result T Stop)
-    → IfSome known (λ s. OpensAs {I = I} f (taken_by (ask_of name) s) (Ok input)) → OpensFirst known name r
-opened-first f input known name r opens = there-first known name r (is-there f input known name opens)
+pub opened-before-memory : {I T : Type 0} (f : I → Option Coming) (input : I) (known : Option Sources) (name : List ℕ) (r : Result T Stop)
+    → IfSome known (λ s. OpensAs {I = I} f (taken_by (ask_of name) s) (Ok input)) → OpensBeforeMemory known name r
+opened-before-memory f input known name r opens = open-before-memory known name r (can-open f input known name opens)

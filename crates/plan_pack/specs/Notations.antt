@@ -47,7 +47,7 @@ abbrev pub sooner : Option Unlisted → Option Unlisted → Option Unlisted
 sooner None second = second
 sooner (Some why) second = Some why
 
--- the refusal of a line that says these bytes or none, behind `count` patterns with `bytes` bytes in all
+-- the refusal of a line that says these bytes or none, after `count` patterns with `bytes` bytes in all
 abbrev pub line_refusal : ℕ → ℕ → Option (List ℕ) → Option Unlisted
 line_refusal count bytes None = Some (BadHex (count + 1))
 line_refusal count bytes (Some pattern) = option_map BadPatterns (pattern_refusal count bytes (length pattern))

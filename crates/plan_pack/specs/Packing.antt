@@ -51,7 +51,7 @@ StaysEmpty written known r =
 
 -- ---- from files of patterns
 
--- the bytes are the plan file of these plans and of those of the files' lists behind them
+-- the bytes are the plan file of these plans and then of those of the files' lists
 pub record HoldsPlansOf (reading : Reading) (profile : Profile) (before : List Plan) (names : List (List ℕ)) (s : Sources) (written : Option (List ℕ)) : Type 0 where
   pub plans : List Plan
   pub right : ArePlansOf reading profile names s plans

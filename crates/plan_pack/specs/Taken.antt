@@ -14,12 +14,12 @@ use Rattle.plan_pack.specs.declared.stop.Stop.{Stop}
 use Rattle.plan_pack.specs.declared.stop.Stop.TheVariants.{OutOfMemory, Refused, WriteFault}
 
 -- if the files are known, what is asked for under this name can be opened
-abbrev pub IsThere : Option Sources → List ℕ → Type 0
-IsThere known name = IfSome known (λ s. taken_by (ask_of name) s ≢ None)
+abbrev pub CanBeOpened : Option Sources → List ℕ → Type 0
+CanBeOpened known name = IfSome known (λ s. taken_by (ask_of name) s ≢ None)
 
--- something was read only of what can be opened, and memory ran out only behind it
-abbrev pub OpensFirst : {T : Type 0} → Option Sources → List ℕ → Result T Stop → Type 0
-OpensFirst known name r = MatchResult r (λ x. IsThere known name) (λ stop. stop ≡ OutOfMemory → IsThere known name)
+-- something was read only of what can be opened, and memory ran out only after the open
+abbrev pub OpensBeforeMemory : {T : Type 0} → Option Sources → List ℕ → Result T Stop → Type 0
+OpensBeforeMemory known name r = MatchResult r (λ x. CanBeOpened known name) (λ stop. stop ≡ OutOfMemory → CanBeOpened known name)
 
 -- a file of patterns was read: its list, or why it has none
 abbrev pub TakesList : Reading → List ℕ → Option Content → Result Literals Stop → Type 0

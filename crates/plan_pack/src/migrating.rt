@@ -7,7 +7,7 @@ ghost use Rattle.plan_pack.specs.Migrated.{AreMigrated, IsMigrated, migrated_lin
 ghost use Rattle.plan_pack.specs.Migrating.{MakesMigrated, Migrates};
 ghost use Rattle.plan_pack.specs.Packing.{StaysEmpty, answer_of};
 ghost use Rattle.plan_pack.specs.Stops.{is_refusal, is_write};
-ghost use Rattle.plan_pack.specs.Taken.{OpensFirst};
+ghost use Rattle.plan_pack.specs.Taken.{OpensBeforeMemory};
 
 use crate::fault::Fault;
 use crate::packing::{Unmade, make};
@@ -38,7 +38,7 @@ pub fn migrate_file<'a, F: Files>(
     ensures migrated { IfKnown (F.sources files.old) (F.sources files.new) (λ s left. AreShort s
         → UnlessStarved (answer_of result) (LeavesMigrate input.now output.now s left) (migrate_asks input.now output.now) s left
         × Migrates F.Output.written input.now output.now s left result) }
-    ensures opens { OpensFirst (F.sources files.old) input.now (answer_of result) }
+    ensures opens { OpensBeforeMemory (F.sources files.old) input.now (answer_of result) }
 
     // Whatever is known of the files, no write failed to a file that is returned, and one did to a file that is
     // refused.

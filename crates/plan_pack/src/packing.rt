@@ -97,7 +97,7 @@ fn is_file(operand: &str, name: &str) -> bool
     }
 }
 
-/// Makes the plan file of these plans, and of those of files of patterns behind them.
+/// Makes the plan file of these plans, and then of those of the files of patterns.
 fn pack_with<'a, F: Files>(
     alloc: Global,
     reading: Reading,
@@ -130,7 +130,7 @@ fn pack_with<'a, F: Files>(
     }
 }
 
-/// The plans and one more behind them.
+/// The plans and then one more.
 fn with_plan(mut plans: Vec<Compiled>, plan: Compiled) -> Result<Vec<Compiled>, AllocError>
     ensures { IfOk result (λ more. more.items ≡ plans.items ++ plan ∷ []) }
 {

@@ -5,7 +5,7 @@ ghost use Rattle.byte_io.specs.Sources.{AreShort, Content, IsShort, after, ask_o
 ghost use Rattle.plan_pack.specs.Lists.{ArePlaces, literals_of};
 ghost use Rattle.plan_pack.specs.Notations.{list_refusal, patterns_of};
 ghost use Rattle.plan_pack.specs.Stops.{is_write};
-ghost use Rattle.plan_pack.specs.Taken.{NamesStop, OpensFirst, TakesList, TakesPlaces, TakesPlans, TakesText};
+ghost use Rattle.plan_pack.specs.Taken.{NamesStop, OpensBeforeMemory, TakesList, TakesPlaces, TakesPlans, TakesText};
 
 use crate::notation::Reading;
 use crate::patterns::{Unlisted, patterns_of};
@@ -35,7 +35,7 @@ pub fn list_of<'a, F: Files>(
     // Where patterns are refused, the refusal names one.
     ensures named { IfErr result (λ stop. IfKnown (F.sources files.old) (F.sources files.new) (λ s left. AreShort s
         → NamesStop reading (taken_by (ask_of file.now) s) stop)) }
-    ensures starved { OpensFirst (F.sources files.old) file.now result }
+    ensures starved { OpensBeforeMemory (F.sources files.old) file.now result }
     ensures unwritten { IfErr result (λ stop. is_write stop ≡ false) }
 {
     match placed_list_of(alloc, reading, file, files) {
@@ -60,7 +60,7 @@ pub fn placed_list_of<'a, F: Files>(
     // Where patterns are refused, the refusal names one.
     ensures named { IfErr result (λ stop. IfKnown (F.sources files.old) (F.sources files.new) (λ s left. AreShort s
         → NamesStop reading (taken_by (ask_of file.now) s) stop)) }
-    ensures starved { OpensFirst (F.sources files.old) file.now result }
+    ensures starved { OpensBeforeMemory (F.sources files.old) file.now result }
     ensures unwritten { IfErr result (λ stop. is_write stop ≡ false) }
 {
     match open_operand(files, file) {
@@ -122,7 +122,7 @@ pub fn plans_of<'a, F: Files>(
 ) -> Result<Vec<Compiled>, Stop<'a>>
     ensures plans { IfKnown (F.sources files.old) (F.sources files.new) (λ s left. AreShort s
         → (left ≡ after (ask_of file.now) s) × TakesPlans file.now (taken_by (ask_of file.now) s) result) }
-    ensures starved { OpensFirst (F.sources files.old) file.now result }
+    ensures starved { OpensBeforeMemory (F.sources files.old) file.now result }
     ensures few { IfOk result (λ plans. length plans.items ≤ 64) }
     ensures unwritten { IfErr result (λ stop. is_write stop ≡ false) }
 {
@@ -166,7 +166,7 @@ pub fn text_of<'a, F: Files>(
 ) -> Result<Vec<u8>, Stop<'a>>
     ensures text { IfKnown (F.sources files.old) (F.sources files.new) (λ s left. AreShort s
         → (left ≡ after (ask_of operand.now) s) × TakesText operand.now (taken_by (ask_of operand.now) s) result) }
-    ensures starved { OpensFirst (F.sources files.old) operand.now result }
+    ensures starved { OpensBeforeMemory (F.sources files.old) operand.now result }
     ensures unwritten { IfErr result (λ stop. is_write stop ≡ false) }
 {
     match open_operand(files, operand) {

@@ -1,6 +1,6 @@
 -- The plans of the file are migrated, or there are none.
 use Rattle.plan_pack.specs.Packing.{answer_of}
-use Rattle.plan_pack.proofs.ListLemmas.{there-first}
+use Rattle.plan_pack.proofs.ListLemmas.{open-before-memory}
 use Rattle.plan_pack.proofs.MigrateLemmas.{migrate-had, migrate-stopped}
 use Rattle.plan_pack.proofs.PackLemmas.{stays-empty}
 use Rattle.plan_pack.proofs.migrating.migrate_file.Goals as goal
@@ -18,4 +18,4 @@ returns-in-Ok-clause-starved g c =
     stays-empty g.F.Output.ByteOut.written (g.F.Opener.sources c.args.files.now) (g.F.Opener.sources c.plans_of.new.files) _ c.migrate_to.result c.in-Ok.ensures.plans c.migrate_to.ensures.starved
 
 pub returns-in-Ok-clause-opens : goal.returns-in-Ok-clause-opens
-returns-in-Ok-clause-opens g c = there-first (g.F.Opener.sources c.args.files.now) c.args.input.now (answer_of c.migrate_to.result) c.in-Ok.ensures.starved
+returns-in-Ok-clause-opens g c = open-before-memory (g.F.Opener.sources c.args.files.now) c.args.input.now (answer_of c.migrate_to.result) c.in-Ok.ensures.starved

@@ -3,7 +3,7 @@ use Rattle.std.proofs.Common.{IfErr}
 use Rattle.byte_io.specs.Sources.{ask_of}
 use Rattle.byte_io.proofs.OpenerLemmas.{opened}
 use Rattle.plan_pack.specs.Taken.{NamesStop, TakesPlaces}
-use Rattle.plan_pack.proofs.ListLemmas.{named-reported, opened-first}
+use Rattle.plan_pack.proofs.ListLemmas.{named-reported, opened-before-memory}
 use Rattle.plan_pack.proofs.reading.placed_list_of.Goals as goal
 
 pub returns-in-Ok-clause-list : goal.returns-in-Ok-clause-list
@@ -18,4 +18,4 @@ returns-in-Ok-clause-named g c =
     c.in-Ok.ensures.takes c.in-Ok.ensures.gives c.list_from.ensures.named)
 
 pub returns-in-Ok-clause-starved : goal.returns-in-Ok-clause-starved
-returns-in-Ok-clause-starved g c = opened-first _ c.in-Ok.input (g.F.Opener.sources c.args.files.now) c.args.file.now c.list_from.result c.in-Ok.ensures.gives
+returns-in-Ok-clause-starved g c = opened-before-memory _ c.in-Ok.input (g.F.Opener.sources c.args.files.now) c.args.file.now c.list_from.result c.in-Ok.ensures.gives

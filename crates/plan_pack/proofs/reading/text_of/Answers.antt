@@ -2,7 +2,7 @@
 use Rattle.byte_io.specs.Sources.{ask_of}
 use Rattle.byte_io.proofs.OpenerLemmas.{opened}
 use Rattle.plan_pack.specs.Taken.{TakesText}
-use Rattle.plan_pack.proofs.ListLemmas.{opened-first}
+use Rattle.plan_pack.proofs.ListLemmas.{opened-before-memory}
 use Rattle.plan_pack.proofs.reading.text_of.Goals as goal
 
 pub returns-in-Ok-clause-text : goal.returns-in-Ok-clause-text
@@ -11,4 +11,4 @@ returns-in-Ok-clause-text g c =
     c.in-Ok.ensures.takes c.in-Ok.ensures.gives c.text_from.ensures.text
 
 pub returns-in-Ok-clause-starved : goal.returns-in-Ok-clause-starved
-returns-in-Ok-clause-starved g c = opened-first _ c.in-Ok.input (g.F.Opener.sources c.args.files.now) c.args.operand.now c.text_from.result c.in-Ok.ensures.gives
+returns-in-Ok-clause-starved g c = opened-before-memory _ c.in-Ok.input (g.F.Opener.sources c.args.files.now) c.args.operand.now c.text_from.result c.in-Ok.ensures.gives
