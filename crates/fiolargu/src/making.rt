@@ -42,6 +42,7 @@ pub(crate) fn lines_of(alloc: Global, text: &[u8]) -> Result<RawList, Fault>
     ensures ok { IfOk result (λ raw. raw ≡ lines text.now) }
     ensures accepted { IfOk result (λ _. text_refusal [] text.now (lines text.now) ≡ None) }
     ensures err { IfErr result (λ fault. (fault ≡ OutOfMemory) ⊎ (text_refusal [] text.now (lines text.now) ≡ Some fault)) }
+    ensures starved { IfErr result (λ fault. fault ≡ OutOfMemory → text_refusal [] text.now (lines text.now) ≡ None) }
     ensures few { IfErr result (λ fault. fault ≡ TooManyLiterals → ⊥) }
 {
     let mut raw = RawList::new(alloc);

@@ -102,6 +102,7 @@ pub extern "C" fn fiolargu_plan_of_lines(
     ensures large { result ≡ LIST_TOO_LARGE → text_refusal [] text.now (lines text.now) ≡ Some ListTooLarge }
     ensures none { result ≡ NO_LITERALS → length (normal_form (fold_of flags) (lines text.now)) ≡ 0 }
     ensures unrefused { result ≡ NO_LITERALS → text_refusal [] text.now (lines text.now) ≡ None }
+    ensures starved { result ≡ OUT_OF_MEMORY → text_refusal [] text.now (lines text.now) ≡ None }
     ensures flags { result ≡ OUT_OF_RANGE ↔ (3 < flags) }
     ensures refused { (result ≡ OK) ⊎ ((result ≡ OUT_OF_RANGE) ⊎ IsListStatus result) }
 {

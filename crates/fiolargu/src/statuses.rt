@@ -1,8 +1,8 @@
 //! What a call answers.
 ghost use Rattle.std.specs.Prelude.{◌≡◌};
 ghost use Rattle.fiolargu.specs.Answers.{IsListStatus, StatusesLaw, is_at};
-ghost use Rattle.fiolargu.specs.declared.statuses.TheConstants.{LIST_TOO_LARGE, LITERAL_TOO_LONG, NO_LITERALS, OK, OUT_OF_RANGE, SMALL_BUFFER, TOO_MANY_PATTERNS};
-ghost use Rattle.lit_base.specs.declared.fault.Fault.TheVariants.{ListTooLarge, LiteralTooLong, TooManyLiterals, TooManyPatterns};
+ghost use Rattle.fiolargu.specs.declared.statuses.TheConstants.{LIST_TOO_LARGE, LITERAL_TOO_LONG, NO_LITERALS, OK, OUT_OF_MEMORY, OUT_OF_RANGE, SMALL_BUFFER, TOO_MANY_PATTERNS};
+ghost use Rattle.lit_base.specs.declared.fault.Fault.TheVariants.{ListTooLarge, LiteralTooLong, OutOfMemory, TooManyLiterals, TooManyPatterns};
 
 use lit_base::Fault;
 
@@ -61,6 +61,7 @@ pub(crate) fn status_of_list(fault: Fault) -> (i32, usize)
     ensures other { (result.0 ≡ LITERAL_TOO_LONG → ⊥) → result.1 ≡ 0 }
     ensures many { result.0 ≡ TOO_MANY_PATTERNS → fault ≡ TooManyPatterns }
     ensures large { result.0 ≡ LIST_TOO_LARGE → fault ≡ ListTooLarge }
+    ensures memory { result.0 ≡ OUT_OF_MEMORY → fault ≡ OutOfMemory }
     ensures named { (fault ≡ TooManyLiterals → ⊥) → IsListStatus result.0 }
 {
     match fault {

@@ -1,5 +1,5 @@
 //! Serving one stream.
-ghost use Rattle.std.specs.Prelude.{◌≡◌, All};
+ghost use Rattle.std.specs.Prelude.{◌≡◌, ◌≢◌, All};
 ghost use Rattle.plan_store.specs.Tickets.{IsOf};
 ghost use Rattle.scan_run.specs.Alone.{EndsAlone, MayHaveFailed};
 
@@ -25,9 +25,9 @@ pub fn serve_alone<R: Wait, I: ByteIn, O: ByteOut>(
         (MayHaveFailed (I.has_failed input.new) (I.given input.old) (I.given input.new)) (O.has_failed out.new)
         (I.coming input.old) (I.coming input.new) (O.written out.old) (O.written out.new) }
 
-    // Where it ends well no read and no write has failed.
-    ensures unread { result ≡ Status.Clean → I.has_failed input.new ≡ I.has_failed input.old }
-    ensures unwritten { result ≡ Status.Clean → O.has_failed out.new ≡ O.has_failed out.old }
+    // Where it ends well, or memory runs out, no read and no write has failed.
+    ensures unread { result ≢ Status.Unclean → I.has_failed input.new ≡ I.has_failed input.old }
+    ensures unwritten { result ≢ Status.Unclean → O.has_failed out.new ≡ O.has_failed out.old }
 {
     Status::from(serve_loaded(rt, alloc, store, loaded, input, out))
 }

@@ -1,5 +1,5 @@
--- A clean status belongs to a stream that ended so.
-use Rattle.scan_run.proofs.StatusLemmas.{clean_ended}
+-- Only an unclean status belongs to a stream whose reading or writing failed.
+use Rattle.scan_run.proofs.StatusLemmas.{unfailed}
 use Rattle.scan_run.proofs.alone.serve_alone.Goals as goal
 
 pub returns-clause-ends : goal.returns-clause-ends
@@ -13,7 +13,7 @@ returns-clause-ends g c = record {
 }
 
 pub returns-clause-unread : goal.returns-clause-unread
-returns-clause-unread g c = λ clean. c.serve_loaded.ensures.unread (clean_ended c.serve_loaded.result c.from.result c.from.ensures clean).0
+returns-clause-unread g c = λ other. c.serve_loaded.ensures.unread (unfailed c.serve_loaded.result c.from.result c.from.ensures other).0
 
 pub returns-clause-unwritten : goal.returns-clause-unwritten
-returns-clause-unwritten g c = λ clean. c.serve_loaded.ensures.unwritten (clean_ended c.serve_loaded.result c.from.result c.from.ensures clean).1
+returns-clause-unwritten g c = λ other. c.serve_loaded.ensures.unwritten (unfailed c.serve_loaded.result c.from.result c.from.ensures other).1
