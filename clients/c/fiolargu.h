@@ -68,7 +68,7 @@ enum fiolargu_status {
                                         unknown flag */
 };
 
-/* Flags of a plan, as in plan files and in frames: ASCII case is ignored; up to sixteen groups instead of eight. */
+/* Flags of a plan, as in plan files and in frames: ASCII case is ignored; up to sixteen buckets instead of eight. */
 enum fiolargu_flags { FIOLARGU_IGNORE_CASE = 1, FIOLARGU_SIXTEEN_BUCKETS = 2 };
 
 /* In `literal_of`: the pattern is empty, so it has no literal. */

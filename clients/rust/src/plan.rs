@@ -7,7 +7,7 @@ use std::iter::FusedIterator;
 /// How many hits a call of the library may give beyond those of one end.
 const ROOM: usize = 1024;
 
-/// How many groups a plan may have.
+/// How many buckets a plan may have.
 #[derive(Clone, Copy, Debug, PartialEq, Eq)]
 pub enum Buckets {
     /// At most eight.
@@ -28,7 +28,7 @@ impl Builder {
         self.with(sys::IGNORE_CASE, is_ignored)
     }
 
-    /// How many groups the plan may have, eight by default. Hits are the same.
+    /// How many buckets the plan may have, eight by default. Hits are the same.
     pub fn buckets(self, buckets: Buckets) -> Builder {
         self.with(sys::SIXTEEN_BUCKETS, buckets == Buckets::Sixteen)
     }
@@ -163,7 +163,7 @@ impl Plan {
         self.info.longest as usize
     }
 
-    /// What the plan costs. No grouping into as many groups as it may have costs less.
+    /// What the plan costs. No grouping into as many buckets as it may have costs less.
     pub fn cost(&self) -> u64 {
         self.info.cost
     }
