@@ -39,7 +39,7 @@ fn advice_on(option: &str) -> Option<&'static str> {
         "-a" | "--text" | "-U" | "--binary" | "--line-buffered" => "litgrep always does that.",
         "-y" => "Use -i.",
         "-H" | "--with-filename" => "Name a second file: litgrep cat f /dev/null",
-        "--no-filename" => { "Search each file by itself: for f in *; do litgrep cat \"$f\"; done" }
+        "--no-filename" => { "Search each file in a run of its own: for f in *; do litgrep cat \"$f\"; done" }
         "-L" | "--files-without-match" => {
             "Use -q: for f in *; do litgrep -q cat \"$f\"; [ $? -eq 1 ] && echo \"$f\"; done"
         }
@@ -55,7 +55,7 @@ fn advice_on(option: &str) -> Option<&'static str> {
         "-z" | "--null-data" =>
             "Use tr: tr '\\n\\0' '\\0\\n' < f | litgrep cat | tr '\\n\\0' '\\0\\n'",
         "-o" | "--only-matching" | "-b" | "--byte-offset" => {
-            "Use litplan scan: it tells where each literal ends."
+            "Use litplan scan: it prints where each literal ends."
         }
         "-w" | "--word-regexp" | "--color" | "--colour" => {
             "Use GNU grep on the lines that litgrep selects: litgrep -f list f | grep -w -F -f list"

@@ -14,7 +14,8 @@ Usage: litgrep [-F] [-c | -l | -q] [-insvx] LIST [FILE]...
        litgrep [-F] [-c | -l | -q] [-insvx] (-e LIST | -f FILE)... [FILE]...
 
 Without -e and -f the first operand is the pattern list. Each other operand is
-a file to search; - is standard input, which is searched where there is none.
+a file to search, and - is standard input. Without a file to search, standard
+input is searched.
 Options may follow operands; after -- all words are operands.
 
 Options:
@@ -32,20 +33,20 @@ Options:
   --help                    write this text, to standard error, with status 2
   --version                 write the version, to standard error, with status 2
 
-A line matches if it contains a pattern, byte by byte; a null pattern matches
-every line, with -x every empty one. -e and -f may be repeated and mixed, and
-all their patterns count; a LIST may begin with -. Of -c, -l and -q, -q goes
-before -l, and -l before -c.
+A line matches if it contains a pattern, byte by byte. An empty pattern matches
+every line, with -x every empty line. -e and -f may be repeated and mixed, and
+all their patterns count. A LIST may begin with a hyphen. Of -c, -l and -q, -q
+overrides -l, and -l overrides -c.
 
 Limits: 4096 patterns of at most 4095 bytes each and 1048576 in all; 1052672
-bytes in one LIST or pattern file. What is beyond is refused with
-`litgrep: patterns refused (N)`, N being 2 for too many patterns, 3 for one
-that is too long and 7 for too many bytes.
+bytes in one LIST or pattern file. Beyond a limit the message is
+`litgrep: patterns refused (N)`. N is 2 for too many patterns, 3 for a pattern
+that is too long, and 7 for too many bytes.
 
-Status: 0 if a line is selected, 1 if none is, 2 at an error; with -q 0 if a
-line is selected, whatever the errors.
+Status: 0 if a line is selected, 1 if no line is, 2 at an error. With -q it is
+0 if a line is selected, even if there was an error before.
 
-GNU grep has more options, which POSIX has not. In their place:
+POSIX does not have the other options of GNU grep. Use in their place:
   for -a, -U, --line-buffered   nothing, since litgrep always does that
   for -y                        -i
   for -H                        a second file: litgrep cat f /dev/null
@@ -61,6 +62,6 @@ GNU grep has more options, which POSIX has not. In their place:
 Examples:
   litgrep -n -e cat -e dog notes.txt
       the lines of notes.txt with cat or dog, and their numbers
-  tail -f log | litgrep -i -f words
+  tail -n 0 -F log | litgrep -i -f words
       the new lines of log with a word of the file words, as they come
 ";

@@ -4,54 +4,56 @@ pub const USAGE: &str =
     "scand --port P --connections N [--plans FILE]...\n       scand --stdio [--plans FILE]...";
 
 pub const HELP: &str = "\
-Scans byte streams for many literals at once, for clients that speak frames:
-they publish lists of literals, open streams by them, feed bytes in pieces cut
-anywhere, and are told each place at which a literal ends, once and in order.
+Scans byte streams for many literals at once, for clients that speak frames.
+Clients publish lists of literals, open streams by them, and feed bytes in
+pieces cut anywhere. scand reports each position at which a literal ends, once
+and in order.
 
 Usage: scand --port P --connections N [--plans FILE]...
        scand --stdio [--plans FILE]...
 
       --port P         listen on this port of 127.0.0.1, up to 65535; with 0
-                       the system chooses one, and standard error tells it
-      --connections N  accept so many connections, from 1 to 64, serve each in
-                       a thread of its own, and end when all have ended
+                       the system chooses a port, and standard error gets the
+                       line `scand: port P`
+      --connections N  accept this many connections in all, from 1 to 64, serve
+                       each in a thread of its own, and end when all have ended
       --stdio          serve one client over standard input and output; the
-                       port and connections then count for nothing
+                       port and the number of connections then count for nothing
       --plans FILE     publish the plans of this file before anything is
-                       served; - is a file called -; may be repeated
+                       served; - is a file of that name; may be repeated
   -h, --help           print this, to standard error, with status 2
-  -V, --version        print the version, likewise
+  -V, --version        print the version, to standard error, with status 2
 
-All clients share the plans that they publish, each under its number. Each
-frame is answered before the next one is waited for. Of what was fed the last
-bytes are kept that a hit may need and, of long streams, up to 16 KiB to tune
-the search. A client takes up to 1.3 megabytes beside its plans, up to 9.8
-where literals end often, whatever it asks. It may wait for as long as it
-likes: put a limit, where one is wanted, before the server.
+All clients share the plans that they publish, each under its number. scand
+answers each frame before it waits for the next frame. It keeps the last bytes
+of each stream that a hit may need and, once a stream is long, up to 16 KiB to
+tune its search. Besides its plans and streams, a client takes up to 1.3 MiB,
+or up to 9.8 MiB where matches are dense. A client may wait for as long as it
+likes. If you want a limit, enforce it in front of the server.
 
-A plan file, as `litplan pack` writes one, holds up to 64 plans, each with its
-certificate. It is read whole, each certificate is checked again, and the plans
-are published in order, with a line `scand: plan NUMBER` for each on standard
-error: clients open streams by that number. Several files are published one
-after the other, and the numbers go on. With a file that cannot be read
-(`scand: FILE: cannot be read`) or that is no plan file (`scand: FILE: refused
-(10)`) nothing is served.
+A plan file, as `litplan pack` writes it, holds up to 64 plans, each with its
+certificate. scand checks each certificate again, and publishes the plans in
+order. Standard error gets a line `scand: plan NUMBER` for each, and clients
+open streams by that number. Several files are published one after the other,
+and the numbers go on. If a file cannot be read (`scand: FILE: cannot be read`)
+or is not a plan file (`scand: FILE: refused (10)`), nothing is served.
 
-When all connections have ended a line tells of each, in order of acceptance:
-`connection I WORD`, WORD being clean, truncated (inside a frame), bad (bytes
-that are no frame), read-fault, write-fault, out-of-memory, or not-served where
-no thread could be started.
+When all connections to the port have ended, standard output gets a line for
+each, in order of acceptance: `connection I WORD`. WORD is clean, truncated
+(the bytes ended inside a frame), bad (there were bytes that are not a frame),
+read-fault, write-fault, out-of-memory, or not-served (no thread could be
+started).
 
-Status: 0 if each client ended between two frames, else 1; 2 at an error, with
-a message where one can be written. With --stdio the status alone tells how
-the client ended.
+Status: 0 if each client ended between two frames, 1 if one ended otherwise, 2
+at an error, with a message where one can be written. With --stdio only the
+status says how the client ended.
 
 Limits of a client: 64 plans, 64 open streams, 4096 patterns of at most 4095
-bytes in a list, 65536 bytes of payload in a frame, into which a list has to
-fit.
+bytes in a list. A list has to fit into one frame, which holds 65536 bytes of
+payload.
 
-Examples: one client, whose frames are in a file; a server that begins with the
-plans of a file
+Examples: one client, whose frames are in a file; eight connections, which may
+use the plans of a file
   scand --stdio < frames > replies
-  scand --port 5000 --connections 8 --plans words.plans
+  scand --port 7007 --connections 8 --plans words.plan
 ";
