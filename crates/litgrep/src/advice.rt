@@ -39,7 +39,7 @@ fn advice_on(option: &str) -> Option<&'static str> {
         "-a" | "--text" | "-U" | "--binary" | "--line-buffered" => "litgrep always does that.",
         "-y" => "Use -i.",
         "-H" | "--with-filename" => "Name a second file: litgrep cat f /dev/null",
-        "--no-filename" => { "Search each file in a run of its own: for f in *; do litgrep cat \"$f\"; done" }
+        "--no-filename" => { "Run litgrep for each file: for f in *; do litgrep cat \"$f\"; done" }
         "-L" | "--files-without-match" => {
             "Use -q: for f in *; do litgrep -q cat \"$f\"; [ $? -eq 1 ] && echo \"$f\"; done"
         }

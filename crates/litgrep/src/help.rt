@@ -15,8 +15,7 @@ Usage: litgrep [-F] [-c | -l | -q] [-insvx] LIST [FILE]...
 
 Without -e and -f the first operand is the pattern list. Each other operand is
 a file to search, and - is standard input. Without a file to search, standard
-input is searched.
-Options may follow operands; after -- all words are operands.
+input is searched. Options may follow operands. After -- all words are operands.
 
 Options:
   -F, --fixed-strings       patterns are literals, as they always are here
