@@ -2,7 +2,7 @@
 
        cc -std=c99 -Wall -Wextra -o scan clients/c/scan.c && ./scan 7000 cat dog < text
 
-   The words behind the port are the literals. Status 0, or 2 at an error, with a message. */
+   The words after the port are the literals. Status 0, or 2 at an error, with a message. */
 
 #define _POSIX_C_SOURCE 200809L
 

@@ -74,7 +74,7 @@ struct scand_hit {
     uint64_t end;
 };
 
-/* A Plan, but for where its runs end. It may have `buckets` runs, 8 or 16. */
+/* A Plan, without the ends of its runs. It may have `buckets` runs: 8 or 16. */
 struct scand_shown {
     int ignores_case;
     uint16_t literals;
@@ -83,7 +83,7 @@ struct scand_shown {
     uint8_t buckets;
 };
 
-/* Numbers, of so many bytes, the greatest first. */
+/* Numbers of some bytes, big-endian. */
 
 static inline uint64_t scand_get(const uint8_t *from, size_t bytes)
 {
@@ -104,7 +104,7 @@ static inline void scand_put(uint8_t *to, size_t bytes, uint64_t number)
 
 /* Writing. */
 
-/* The head of a frame with so many bytes of payload, which the caller sends behind it from where they stand. */
+/* The head of a frame with `size` bytes of payload, which the caller sends after it. */
 static inline size_t scand_put_head(uint8_t *to, size_t room, uint8_t kind, uint32_t stream, size_t size)
 {
     if (size > SCAND_PAYLOAD || room < SCAND_HEAD) {

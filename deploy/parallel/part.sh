@@ -1,11 +1,11 @@
 #!/bin/bash
-# Searches one of N parts of a file by litgrep. The parts are cut at newlines, and are the file in their order.
+# Searches one of N parts of a file by litgrep. The parts are cut at newlines; in order they are the file.
 #
 #   seq 16 | parallel -k --retries 3 deploy/parallel/part.sh {} 16 FILE -f WORDS
 #   seq 16 | parallel -k --retries 3 -S one,two /shared/part.sh {} 16 /shared/FILE -f /shared/WORDS
 #
-# Status 0: the part was read to its end and searched, also where no line was selected; else something was not, and the
-# part is to be searched anew. LITGREP in the environment names another litgrep than the one on the PATH.
+# Status 0: the part was read to its end and searched, even if no line was selected. After any other status, search the
+# part again. LITGREP in the environment names a litgrep that is not on the PATH.
 if (($# < 4)); then
     echo "usage: part.sh PART PARTS FILE OPTION.." >&2
     exit 2
