@@ -61,7 +61,7 @@ static void send_frame(int peer, size_t size)
     }
 }
 
-/* The next reply, which is lent until the one behind it is asked for. */
+/* The next reply. It is valid until the next call. */
 static struct scand_frame reply(int peer)
 {
     struct scand_frame frame;

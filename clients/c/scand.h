@@ -1,12 +1,12 @@
 /* The frames of scand, written and read: one header of C99, without allocation or system calls. docs/FORMATS.md
    describes them.
 
-   Writing: `scand_put_..` writes one frame to `to`, where there is room for `room` bytes, and returns how many bytes it
-   has; or 0, with nothing written, where it does not fit there or is no frame. SCAND_FRAME bytes are room for each.
+   Writing: `scand_put_..` writes one frame to `to`, which has room for `room` bytes, and returns the length of the frame.
+   It returns 0, and writes nothing, if the frame does not fit or would be wrong. Each frame fits SCAND_FRAME bytes.
 
-   Reading: `scand_take` looks at the bytes that have come so far, and lends the first frame in them. A reply is to be
-   read only where `scand_is_reply` says yes, a request where `scand_cause_of` says 0; after that the readers below
-   touch nothing but the payload. Bytes that are lent stay the caller's. */
+   Reading: `scand_take` finds the first frame in the bytes that have come so far. The frame points into these bytes. Read
+   a reply only if `scand_is_reply` returns 1, and a request only if `scand_cause_of` returns 0: then the readers below
+   touch nothing but the payload. */
 
 #ifndef SCAND_H
 #define SCAND_H
@@ -127,7 +127,7 @@ static inline size_t scand_put_frame(uint8_t *to, size_t room, uint8_t kind, uin
     return scand_put_head(to, room, kind, stream, payload.size) + payload.size;
 }
 
-/* A Publish of these literals, with flags or 0; none that has more than 65,535 bytes fits. */
+/* A Publish of these literals, with flags or 0. A literal of more than 65,531 bytes does not fit. */
 static inline size_t scand_put_publish(uint8_t *to, size_t room, unsigned flags, const struct scand_text *literals, size_t count)
 {
     size_t size = 3;
@@ -201,7 +201,7 @@ static inline enum scand_state scand_take(struct scand_text from, struct scand_f
     return SCAND_WHOLE;
 }
 
-/* Cuts the next literal off what is left of a Publish's literals. 0 where none is whole there. */
+/* Cuts the next literal off the rest of a Publish's literals. 0 if it is not whole. */
 static inline int scand_next_literal(struct scand_text *left, struct scand_text *literal)
 {
     if (left->size < 2) {

@@ -11,8 +11,8 @@ LIST has one literal a line, as bytes (-f) or in hexadecimal (--hex); empty line
 long or too large for one plan is published as several plans, and their hits are joined in order. With --plan nothing is
 published: files are scanned by a plan that the server has already, and a list may say what its literals are.
 
-FILE `-` is standard input. A lost connection is taken up again where the list is known, up to five times in a row and
-once by a scand of its own. Status 0: hits were found; 1: none; 2: a file could not be read, standard output could not
+FILE `-` is standard input. If the list is known, a scan resumes on a new connection when a connection is lost: up to
+five times in a row, with --stdio once. Status 0: hits were found; 1: none; 2: a file could not be read, standard output could not
 be written, the list was refused, or the server was lost for good. Where nobody reads standard output any more, the run
 ends without a message.
 """
@@ -53,7 +53,7 @@ class Published(Resumed):
 
 
 class Loaded:
-    """A plan that the server has. Its list is not known here, so a lost connection cannot be taken up again."""
+    """A plan that the server has. Its list is not known here, so it cannot resume after a lost connection."""
 
     literals: Tuple[bytes, ...] = ()
 

@@ -9,14 +9,16 @@
 hit: the literal's number in the list by length and bytes, and how many bytes of the file there are up to its end. With
 several files each line begins with `NAME:`. WORDS has one literal a line; for hits, empty lines count for nothing.
 
-Each worker, also one that comes later, is sent one file, which stays in its folder until it ends: the list for litgrep,
-or for hits the plan file that litplan makes of it here, once, and that each worker checks again. Workers find hits in their
-own process, by the C library and the Python package `fiolargu`, which is sent too; with --scand they ask a scand for each
-part. Files are searched in parts: for lines and counts cut at newlines, for hits anywhere, with the `longest - 1` bytes
-before a part fed first and their hits dropped. Each worker needs the files under the same names, and litgrep, the library
-or scand; before anything is sent, each is asked whether it has them, and each file is looked for here. A part whose worker is lost is searched by
-another one. Progress goes to standard error. Status 0: something was found; 1: nothing; 2: some part could not be searched,
-or the list could not be planned, and the output is the first part of what it should be.
+Each worker needs the files under the same names, and litgrep, the library or scand. Before it sends anything, the job checks
+that each file exists here, and that each worker has its program or library. It sends one file to each worker, also to a
+worker that comes later: the list for litgrep, or for hits the plan file that litplan makes of it here. A worker checks the
+plan file again, and keeps the file in its folder until it ends. Workers find hits in their own process, by the C library
+and the Python package `fiolargu`, which is sent too. With --scand they start a scand for each part.
+
+Files are searched in parts. For lines and counts parts are cut at newlines. For hits they are cut anywhere: the
+`longest - 1` bytes before a part are fed first, and their hits dropped. If a worker is lost, another worker searches its
+part. Progress goes to standard error. Status 0: something was found; 1: nothing; 2: some part could not be searched, or the
+list could not be planned, and the output is the first part of what it should be.
 """
 
 import argparse

@@ -26,7 +26,7 @@ class Link:
         self.is_writing = False
 
     def wait(self, is_writing: bool, timeout: Optional[float]) -> Tuple[bool, bool]:
-        """Waits until the link can be read, or written where that is wanted, and tells which."""
+        """Waits until the link can be read, or written if `is_writing`, and returns which."""
         if is_writing != self.is_writing:
             self.select(is_writing)
         events = {key.fd: mask for key, mask in self.selector.select(timeout)}
@@ -56,8 +56,8 @@ class Client:
 
     @classmethod
     def connect(cls, host: str, port: int, *, timeout: Optional[float] = 30.0) -> Client:
-        """A connection to a server. `timeout` bounds each wait in which no byte goes either way, in seconds. ValueError where
-        there is no such port."""
+        """A connection to a server. `timeout` bounds each wait in which no byte goes either way, in seconds. ValueError if
+        `port` is not a port."""
         name = f"{host}:{port}"
         if not 0 < port < 65536:
             raise ValueError(f"{name}: a port is a number from 1 to 65535")
@@ -77,7 +77,7 @@ class Client:
         cls, words: Sequence[str] = ("scand", "--stdio"), *, timeout: Optional[float] = 30.0, stderr: Optional[BinaryIO] = None
     ) -> Client:
         """A server of its own, over the standard streams of a subprocess, which `close` ends. Its messages, among them the
-        numbers of a plan file's plans, go to `stderr`, or else to this program's own."""
+        numbers of a plan file's plans, go to `stderr`, by default this program's own."""
         try:
             child = subprocess.Popen(words, stdin=subprocess.PIPE, stdout=subprocess.PIPE, stderr=stderr, bufsize=0)
         except OSError as fault:
@@ -115,8 +115,8 @@ class Client:
         return Plan(number, ordered(words, ignore_case), ignore_case, buckets)
 
     def open(self, plan: Union[Plan, int], number: Optional[int] = None) -> Stream:
-        """Opens a stream by a plan, or by the number of one that another client published or the server began with. The
-        stream gets this number, or the first free one."""
+        """Opens a stream by a plan, or by the number of a plan that another client published or that the server began
+        with. The stream gets `number`, by default the first free number."""
         if number is None:
             number = next(free for free in range(len(self._streams) + 1) if free not in self._streams)
         self._ask(open_frame(number, plan.number if isinstance(plan, Plan) else plan), number, Reply.OPENED)
@@ -129,7 +129,7 @@ class Client:
         return self._expect(stream, (kind,))[1]
 
     def _send(self, request: bytes) -> None:
-        """Puts a request behind the bytes to go out."""
+        """Appends a request to the bytes to send."""
         if not self._is_open:
             raise ConnectionLost(f"the connection to {self.name} is closed")
         if self._is_scanning:
@@ -167,7 +167,7 @@ class Client:
         return kind, stream, payload
 
     def _need(self, size: int) -> None:
-        """Waits until so many bytes of replies are there. What is to go out goes out meanwhile."""
+        """Waits until `size` bytes of replies are there, and sends requests meanwhile."""
         if len(self._got) - self._at < size:
             del self._got[: self._at]
             self._at = 0
@@ -231,12 +231,12 @@ def _end(child: subprocess.Popen[bytes]) -> None:
 
 
 class Stream:
-    """An open stream. Its hits are told by their ends, and by literal where they end together."""
+    """An open stream. Its hits are ordered by end, and by literal where ends are equal."""
 
     def __init__(self, client: Client, number: int, plan: Optional[Plan]) -> None:
         self.client, self.number, self.plan = client, number, plan
         self.place = 0
-        """How many bytes the server has told to have."""
+        """How many bytes the server has reported as fed."""
 
     def __enter__(self) -> Stream:
         return self
@@ -251,10 +251,10 @@ class Stream:
         return list(self.scan([piece]))
 
     def scan(self, pieces: Iterable[bytes], ahead: int = 4) -> Generator[Hit, None, None]:
-        """Feeds pieces as its hits are asked for, and gives these as they come. Up to `ahead` Feeds are on their way at
-        once: so many pieces are taken before the hits of the first are given; with 1 each piece is answered before the
-        next is taken. Nothing else can be asked of the client until the iterator is at its end or closed. Where it is
-        closed, what was fed stays fed, and its hits are dropped."""
+        """An iterator over the hits, which feeds the pieces as it is read. Up to `ahead` Feeds are on their way at once: it
+        takes that many pieces before it gives the hits of the first. With 1 it takes a piece after the reply to the piece
+        before. The client serves no other call until the iterator is at its end or closed. Closing it drops the hits of
+        what was fed."""
         source, awaited, is_over = cut(pieces), 0, False
         self.client._begin()
         try:
@@ -276,7 +276,7 @@ class Stream:
             self._drain(awaited)
 
     def _answer(self) -> Tuple[bool, Iterable[Hit]]:
-        """Whether the next reply is the Fed of a Feed, and the hits that it tells where it is not."""
+        """Whether the next reply is the Fed of a Feed, and otherwise its hits."""
         kind, payload = self.client._expect(self.number, (Reply.HITS, Reply.FED))
         if kind == Reply.HITS:
             return False, map(Hit._make, HIT.iter_unpack(payload[2:]))
@@ -284,7 +284,7 @@ class Stream:
         return True, ()
 
     def _drain(self, awaited: int) -> None:
-        """Takes the replies to so many Feeds, or those before the connection ends."""
+        """Takes the replies to this many Feeds, or the replies before the connection ends."""
         with contextlib.suppress(ConnectionLost, TimedOut, BadReply):
             while awaited and self.client._is_open:
                 try:
@@ -294,7 +294,7 @@ class Stream:
         self.client._is_scanning = False
 
     def show_plan(self) -> PlanShown:
-        """What the server tells of the stream's plan."""
+        """What the server reports of the stream's plan."""
         payload = self.client._ask(frame(Request.SHOW_PLAN, self.number), self.number, Reply.PLAN)
         flags, literals, price, runs = struct.unpack_from(">BHQB", payload)
         ends, buckets = struct.unpack_from(f">{runs}H", payload, 12), 16 if flags & SIXTEEN_BUCKETS else 8

@@ -48,11 +48,11 @@ class LibraryMissing(FiolarguError, ImportError):
 
 
 class ConnectionLost(FiolarguError, ConnectionError):
-    """The connection could not be had, or ended before the reply."""
+    """The connection could not be made, or ended before the reply."""
 
 
 class NotStarted(ConnectionLost):
-    """A server of one's own could not be started. It is not tried again."""
+    """A server of the client's own could not be started. It is not tried again."""
 
 
 class TimedOut(FiolarguError, TimeoutError):
@@ -60,7 +60,7 @@ class TimedOut(FiolarguError, TimeoutError):
 
 
 class BadReply(FiolarguError):
-    """The server sent what is no reply to what it was asked. The connection is closed."""
+    """The server sent bytes that do not answer the request. The connection is closed."""
 
 
 class Refused(FiolarguError):
@@ -112,7 +112,7 @@ class BadPlanFile(Refused):
 
 
 class BadFrame(Refused):
-    """A frame that is none; its `Cause` is `detail`. The server ends the connection."""
+    """Bytes that are not a frame; the `Cause` is `detail`. The server ends the connection."""
 
 
 class StreamInUse(Refused):

@@ -45,8 +45,8 @@ class Hit(NamedTuple):
 
 
 class PlanShown(NamedTuple):
-    """What ShowPlan tells: how many literals there are, what the plan costs, where its runs end, and how many buckets it
-    may have, 8 or 16. A bucket has one run."""
+    """What ShowPlan reports: how many literals there are, what the plan costs, where its runs end, and how many buckets
+    it may have, 8 or 16. Each run is a bucket."""
 
     ignore_case: bool
     literals: int
@@ -106,7 +106,7 @@ def publish_frame(literals: Sequence[bytes], ignore_case: bool = False, buckets:
 
 
 def cut(pieces: Iterable[bytes]) -> Iterator[bytes]:
-    """The pieces, each cut into ones that fit a frame."""
+    """The pieces, each cut into pieces that fit a frame."""
     for piece in pieces:
         for start in range(0, max(len(piece), 1), PAYLOAD):
             yield bytes(piece[start : start + PAYLOAD])

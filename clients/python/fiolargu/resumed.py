@@ -1,4 +1,4 @@
-"""A stream that goes on where a connection is lost."""
+"""A stream that resumes on a new connection when a connection is lost."""
 
 from __future__ import annotations
 
@@ -13,22 +13,20 @@ from .errors import BadReply, ConnectionLost, FiolarguError, NotStarted, TimedOu
 from .frames import Hit, Plan, cut, ordered, texts
 
 class Resumed:
-    """A stream by a list of its own, which goes on where a connection is lost: `dial` gives a new client, which publishes
-    the list and opens a stream anew. That stream is fed, from the last place that was told as fed, the bytes that a hit
-    may need, `longest - 1` of them, and what was not told as fed. Hits that were given are left out and places shifted,
-    so that each hit of the whole stream is given once, in order.
+    """A stream by a list of its own, which resumes when a connection is lost. `dial` gives a new client, which publishes
+    the list and opens a new stream. That stream is fed the `longest - 1` bytes before the last position that was reported
+    as fed, and then the bytes that were not. Hits that were given before are left out, and positions are shifted. So each
+    hit of the whole stream is given once, in order.
 
-    Only a stream of a list that one has oneself can be taken up again: another client's plan is gone with its server. With a
-    `number` nothing is published, and streams are opened by that plan, which each server has from the same plan file. It
-    is to be the plan of this list: BadReply where it has another number of literals, or tells otherwise whether case
-    counts.
+    With a `number` nothing is published: streams are opened by that plan, which each server has from the same plan file.
+    It must be the plan of this list. BadReply if it has another number of literals, or treats case otherwise.
 
         with Resumed(lambda: Client.connect("127.0.0.1", 7000), [b"cat"]) as stream:
             for hit in stream.scan(pieces_of(file)):
                 ...
 
-    After `tries` connections in a row that bring it no further the last fault is raised, and again by whatever is asked
-    later. Between them it waits for `pause` seconds, and twice as long each time, up to two seconds.
+    After `tries` connections in a row that bring it no further, it raises the last fault, and again at each later call.
+    Between them it waits for `pause` seconds, and twice as long each time, up to two seconds.
     """
 
     def __init__(
@@ -41,9 +39,9 @@ class Resumed:
         self.literals = ordered(self.words, ignore_case)
         """The literals in the order that hits count them by."""
         self.place = 0
-        """How many bytes were told as fed, in all."""
+        """How many bytes were reported as fed, in all."""
         self.losses = 0
-        """How many connections were lost or not to be had."""
+        """How many connections were lost or could not be made."""
         self._client: Optional[Client] = None
         self._stream: Optional[Stream] = None
         self._plan: Union[Plan, int, None] = number
@@ -111,14 +109,14 @@ class Resumed:
                     yield Hit(literal, found[0])
 
     def _noted(self, source: Iterator[bytes]) -> Iterator[bytes]:
-        """The pieces, each kept until it is told as fed."""
+        """The pieces, each kept until it is reported as fed."""
         for piece in source:
             self._note_place()
             self._unfed.append(piece)
             yield piece
 
     def _note_place(self) -> None:
-        """Moves on to the last place told as fed."""
+        """Moves on to the last position reported as fed."""
         place = self.place if self._stream is None else self._base + self._stream.place
         while self._unfed and self.place + len(self._unfed[0]) <= place:
             piece = self._unfed.popleft()
@@ -152,7 +150,7 @@ class Resumed:
         return stream
 
     def _lose(self, fault: FiolarguError) -> None:
-        """Leaves a lost connection behind, and waits. Raises the fault where it is one too many."""
+        """Drops a lost connection, and waits. Raises the fault after too many in a row."""
         self._note_place()
         self.close()
         self.losses += 1

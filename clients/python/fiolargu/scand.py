@@ -8,9 +8,9 @@
             for hit in stream.feed(b"concat"):
                 print(plan.literals[hit.literal], hit.end)      # b'cat' 6
 
-`Client.spawn()` talks with a `scand --stdio` of its own. `Stream.scan` takes an iterable of pieces, and keeps several
-Feeds on their way. `Resumed` is a stream that is taken up again where a connection is lost, by the plan that it
-published: each hit is given once, with its place in the whole stream.
+`Client.spawn()` starts a `scand --stdio` of its own. `Stream.scan` takes an iterable of pieces, and keeps several Feeds
+on their way. `Resumed` is a stream that resumes on a new connection when a connection is lost: each hit is given once,
+with its position in the whole stream.
 
 Each fault is a `FiolarguError`, under its old name `ScandError` too: `Refused` and its classes, one for each number of
 refusal, `ConnectionLost`, `NotStarted`, `TimedOut` and `BadReply`; all but refusals name the server. A client belongs to
