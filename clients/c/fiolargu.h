@@ -98,13 +98,13 @@ typedef struct fiolargu_hit {
 } fiolargu_hit;
 
 /* What a plan has: the number of its literals, the length of the longest of them in bytes, the cost of its certificate,
-   the flags that it was made with, and the number of its groups. */
+   the flags that it was made with, and the number of its runs, which are the buckets that it uses. */
 typedef struct fiolargu_info {
     uint64_t literals;
     uint64_t longest;
     uint64_t cost;
     uint32_t flags;
-    uint32_t groups;
+    uint32_t runs;
 } fiolargu_info;
 
 /* The version of the library, as FIOLARGU_VERSION counts. */

@@ -124,7 +124,7 @@ static void plans(void)
     CHECK(fiolargu_plan_new(&plan, list, 4, FIOLARGU_IGNORE_CASE, literal_of, 4, &fault_at) == FIOLARGU_OK);
     CHECK(literal_of[0] == 1 && literal_of[1] == FIOLARGU_NO_LITERAL && literal_of[2] == 0 && literal_of[3] == 1);
     CHECK(fiolargu_plan_info(&plan, &info) == FIOLARGU_OK);
-    CHECK(info.literals == 2 && info.longest == 3 && info.cost == 702 && info.flags == 1 && info.groups == 2);
+    CHECK(info.literals == 2 && info.longest == 3 && info.cost == 702 && info.flags == 1 && info.runs == 2);
     CHECK(fiolargu_plan_literal(&plan, 1, text, 3, &len) == FIOLARGU_OK && len == 3 && memcmp(text, "dog", 3) == 0);
     CHECK(fiolargu_plan_literal(&plan, 1, text, 2, &len) == FIOLARGU_SMALL_BUFFER && len == 3);
     CHECK(fiolargu_plan_literal(&plan, 2, text, 3, &len) == FIOLARGU_OUT_OF_RANGE && len == 0);

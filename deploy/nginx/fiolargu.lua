@@ -13,7 +13,7 @@ ffi.cdef [[
 typedef struct { void *at; } fiolargu_plan;
 typedef struct { void *at; } fiolargu_stream;
 typedef struct { uint64_t end; uint32_t literal; uint32_t length; } fiolargu_hit;
-typedef struct { uint64_t literals; uint64_t longest; uint64_t cost; uint32_t flags; uint32_t groups; } fiolargu_info;
+typedef struct { uint64_t literals; uint64_t longest; uint64_t cost; uint32_t flags; uint32_t runs; } fiolargu_info;
 int32_t fiolargu_plan_of_lines(fiolargu_plan *, const uint8_t *, size_t, uint32_t, size_t *);
 int32_t fiolargu_plan_info(fiolargu_plan *, fiolargu_info *);
 int32_t fiolargu_plan_literal(fiolargu_plan *, size_t, uint8_t *, size_t, size_t *);

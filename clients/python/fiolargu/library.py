@@ -43,7 +43,7 @@ class Info(ctypes.Structure):
 
     _fields_ = [
         ("literals", ctypes.c_uint64), ("longest", ctypes.c_uint64), ("cost", ctypes.c_uint64),
-        ("flags", ctypes.c_uint32), ("groups", ctypes.c_uint32),
+        ("flags", ctypes.c_uint32), ("runs", ctypes.c_uint32),
     ]
 
 

@@ -34,7 +34,7 @@ pub struct Info {
     pub longest: u64,
     pub cost: u64,
     pub flags: u32,
-    pub groups: u32,
+    pub runs: u32,
 }
 
 pub const IGNORE_CASE: u32 = 1;

@@ -39,4 +39,4 @@ pub record IsInfoOf (p : Plan) (info : PlanInfo) : Type 0 where
   pub longest : info.longest ≡ slice_index (lengths p.literals) (length p.literals.texts - 1)
   pub cost : info.cost ≡ p.certificate.cost
   pub flags : info.flags ≡ flags_of p.literals.folding p.certificate.profile
-  pub groups : info.groups ≡ length p.certificate.ends
+  pub runs : info.runs ≡ length p.certificate.ends

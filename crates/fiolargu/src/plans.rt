@@ -163,7 +163,7 @@ fn info_of(plan: &Compiled) -> PlanInfo
         longest: list.longest() as u64,
         cost: certificate.cost,
         flags: u32::from(flags_of(list.fold(), certificate.profile)),
-        groups: certificate.ends.len() as u32,
+        runs: certificate.ends.len() as u32,
     }
 }
 

@@ -31,6 +31,6 @@ pub struct PlanInfo {
     pub cost: u64,
     /// The flags that it was made with.
     pub flags: u32,
-    /// How many groups.
-    pub groups: u32,
+    /// How many runs: the buckets that it uses.
+    pub runs: u32,
 }
