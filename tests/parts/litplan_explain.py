@@ -110,7 +110,7 @@ WORKED = [
 ]
 
 TOO_LARGE = b"more than 1048576 bytes in all lines, or 1052672 with their newlines\n"
-BAD_LINE = b"line %d: wrong, missing or behind the end\n"
+BAD_LINE = b"line %d: wrong, missing or after the end\n"
 
 
 def plans_of(lists, version=2):
@@ -169,7 +169,7 @@ FLAWS = [
     ({}, ["explain", "--plan", "-"], FILE[:14] + b"\0" + FILE[15:], b"byte 14: the number of runs is out of range\n"),
     ({}, ["explain", "--plan", "-"], FILE[:24] + b"\0" + FILE[25:], b"byte 8: not certified: total\n"),
     ({}, ["explain", "--plan", "-"], FILE + b"x", b"byte 89: bytes follow the last plan\n"),
-    ({}, ["explain", "--plan", "-"], TWO.replace(b"\0\1b", b"\0\1a"), b"byte 14: the literal is not behind the one before it\n"),
+    ({}, ["explain", "--plan", "-"], TWO.replace(b"\0\1b", b"\0\1a"), b"byte 14: the literal is not after the previous literal\n"),
     # a certificate, at its first wrong line
     ({"c": CERTIFICATE + b"x"}, ["explain", "--certificate", "c"], b"", BAD_LINE % 14),
     ({"c": CERTIFICATE[:-4]}, ["explain", "--certificate", "c"], b"", BAD_LINE % 13),

@@ -42,7 +42,7 @@ wrong_list ListTooLarge = Some (codes "more than 1048576 bytes in all lines, or 
 
 -- where a certificate is wrong: the first line that is
 abbrev pub wrong_line : ℕ → List ℕ
-wrong_line line = codes "line " ++ (decimal line ++ codes ": wrong, missing or behind the end\n")
+wrong_line line = codes "line " ++ (decimal line ++ codes ": wrong, missing or after the end\n")
 
 -- what is wrong at a field of a plan file
 abbrev pub wrong_field : Cause → List ℕ
@@ -52,7 +52,7 @@ wrong_field Version = codes "the version is neither 1 nor 2\n"
 wrong_field Count = codes "the number of plans or of literals is out of range\n"
 wrong_field Flags = codes "a flag is unknown in this version\n"
 wrong_field Literal = codes "the literal is empty, too long or not folded\n"
-wrong_field Order = codes "the literal is not behind the one before it\n"
+wrong_field Order = codes "the literal is not after the previous literal\n"
 wrong_field Runs = codes "the number of runs is out of range\n"
 wrong_field (NotCertified reason) = not_certified reason
 wrong_field Trailing = codes "bytes follow the last plan\n"

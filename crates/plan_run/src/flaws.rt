@@ -57,7 +57,7 @@ fn wrong_input(alloc: Global, refusal: Refusal<'_>) -> Result<Option<String>, Al
         Refusal::NotHex { line, .. } => some(format!(in alloc; "line {line}: not hexadecimal\n")),
         Refusal::NoLiterals => some(format!(in alloc; "no line has a literal\n")),
         Refusal::NoCertificate { line } => {
-            some(format!(in alloc; "line {line}: wrong, missing or behind the end\n"))
+            some(format!(in alloc; "line {line}: wrong, missing or after the end\n"))
         }
         Refusal::NoPlanFile { place, cause } => some(wrong_byte(alloc, place, cause)),
         Refusal::NoPlan { .. } => Ok(None),
@@ -104,7 +104,7 @@ fn wrong_field(alloc: Global, cause: Cause) -> Result<String, AllocError>
         }
         Cause::Flags => format!(in alloc; "a flag is unknown in this version\n"),
         Cause::Literal => format!(in alloc; "the literal is empty, too long or not folded\n"),
-        Cause::Order => format!(in alloc; "the literal is not behind the one before it\n"),
+        Cause::Order => format!(in alloc; "the literal is not after the previous literal\n"),
         Cause::Runs => format!(in alloc; "the number of runs is out of range\n"),
         Cause::NotCertified { reason } => not_certified(alloc, reason),
         Cause::Trailing => format!(in alloc; "bytes follow the last plan\n"),
