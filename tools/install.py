@@ -55,8 +55,9 @@ FILES = (
     ("include/**", "{prefix}/include"),
     ("lib/**", "{libdir}"),
 )
-# What units name as the folder of the programs.
+# What units name as the folder of the programs, and how fiolargu.pc finds the prefix from its own folder.
 WRITTEN_BINDIR = b"/usr/local/bin/"
+WRITTEN_PREFIX = b"prefix=${pcfiledir}/../.."
 
 
 def listed(options):
@@ -72,7 +73,8 @@ def listed(options):
 
 
 def put(source, target, options):
-    """Installs a file. A unit starts the programs of the folder that they are installed into."""
+    """Installs a file. A unit starts the programs of the folder that they are installed into, and fiolargu.pc finds the
+    prefix wherever its folder is."""
     os.makedirs(os.path.dirname(target), exist_ok=True)
     part = f"{target}.part"
     if os.path.islink(source):
@@ -80,6 +82,10 @@ def put(source, target, options):
     elif target.endswith(".service"):
         with open(source, "rb") as file, open(part, "wb") as unit:
             unit.write(file.read().replace(WRITTEN_BINDIR, os.path.join(options.bindir, "").encode()))
+    elif target.endswith(".pc"):
+        up = os.path.relpath(options.prefix, os.path.join(options.libdir, "pkgconfig"))
+        with open(source, "rb") as file, open(part, "wb") as module:
+            module.write(file.read().replace(WRITTEN_PREFIX, f"prefix=${{pcfiledir}}/{up}".encode()))
     else:
         shutil.copyfile(source, part)
     if not os.path.islink(part):

@@ -28,7 +28,7 @@ SONAME = f"{NAME}.so.0"
 HEAP = "heap.pic.o"
 LINKED = ("-Wl,-z,relro,-z,now,-z,text,-z,noexecstack", "-Wl,--no-undefined", "-Wl,--build-id=none")
 PKG_CONFIG = """prefix=${{pcfiledir}}/../..
-libdir=${{prefix}}/lib
+libdir=${{pcfiledir}}/..
 includedir=${{prefix}}/include
 
 Name: fiolargu
