@@ -1,12 +1,12 @@
 /* The frames of scand, written and read: one header of C99, without allocation or system calls. docs/FORMATS.md
    describes them.
 
-   Writing: `scand_put_..` writes one frame to `to`, which has room for `room` bytes, and returns the length of the frame.
-   It returns 0, and writes nothing, if the frame does not fit or would be wrong. Each frame fits SCAND_FRAME bytes.
+   Writing: `scand_put_..` writes one frame to `to`, which has room for `room` bytes, and returns the frame's length. It
+   returns 0, and writes nothing, if the frame does not fit or would be wrong. Each frame fits SCAND_FRAME bytes.
 
-   Reading: `scand_take` finds the first frame in the bytes that have come so far. The frame points into these bytes. Read
-   a reply only if `scand_is_reply` returns 1, and a request only if `scand_cause_of` returns 0: then the readers below
-   touch nothing but the payload. */
+   Reading: `scand_take` finds the first frame in the bytes that have come so far. The frame points into these bytes.
+   Read a reply only if `scand_is_reply` returns 1, and a request only if `scand_cause_of` returns 0: then the readers
+   below touch nothing but the payload. */
 
 #ifndef SCAND_H
 #define SCAND_H
