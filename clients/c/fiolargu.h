@@ -25,8 +25,8 @@
    2. One call at a time uses a handle, even where it only reads. Each thread takes a handle of its own by
       `fiolargu_plan_share`, which copies no literal. A handle may go to another thread under a lock, by the start or the
       end of a thread, or by a sequentially consistent atomic.
-   3. No pointer is NULL, not even where the length beside it is 0: pass the address of any object then. A pointer is
-      aligned for its type and leads to as many initialised objects as the length beside it says, below 2^63 bytes.
+   3. No pointer is NULL, not even if the length that goes with it is 0: pass the address of any object then. A pointer is
+      aligned for its type, and leads to as many initialised objects as its length says, below 2^63 bytes.
    4. What a call writes (handles, counts, buffers) overlaps nothing else that is passed to the call. No other thread
       writes what a call reads, or uses what it writes, while it runs.
    5. No call comes from a signal handler, or from a forked child of a process that had several threads.
@@ -35,8 +35,8 @@
    A call needs no set-up and no clean-up, keeps no pointer but those in its handles, prints nothing, sets no `errno` and
    never ends the process. It allocates by `malloc`, `realloc` and `free`.
 
-   Where a call answers another status than FIOLARGU_OK, each handle holds what it held before, `*place` is as it was,
-   and `*count` and `*fed` are 0. */
+   If a call answers a status other than FIOLARGU_OK, each handle holds what it held before, `*place` is as it was, and
+   `*count` and `*fed` are 0. */
 
 #ifndef FIOLARGU_H
 #define FIOLARGU_H
@@ -51,7 +51,7 @@ extern "C" {
 /* The version of this header: 1,000,000 times the first number, 1,000 times the second, and the third. */
 #define FIOLARGU_VERSION 2000
 
-/* What a call answers. The numbers are those by which the programs name refusals (docs/FORMATS.md). */
+/* What a call answers. The programs name refusals by the same numbers (docs/FORMATS.md). */
 enum fiolargu_status {
     FIOLARGU_OK = 0,
     FIOLARGU_OUT_OF_MEMORY = 1,      /* an allocation was refused */
