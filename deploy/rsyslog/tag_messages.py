@@ -11,7 +11,7 @@ properties to the message:
     $!fiolargu!count       how many hits there are
     $!fiolargu!literals    the literals found, in the order of their first ends, with commas between them
 
-A byte that is not UTF-8, a comma and a backslash of a literal are written as \\xHH. A message that is no JSON gets the count -1.
+A byte that is not UTF-8, a comma and a backslash of a literal are written as \\xHH. A message that is not JSON gets the count -1.
 Status 2: the list cannot be read or planned, and rsyslog goes on without tags.
 """
 
