@@ -3,10 +3,10 @@ ghost use Rattle.std.specs.Prelude.{◌≡◌, All, IfErr, IfOk, IfSome};
 ghost use Rattle.lit_base.specs.Lines.{IsOnePiece};
 ghost use Rattle.line_pick.specs.Matching.{AreInLines, StandsFor, literals_of};
 
-use flow_scan::Compiled;
 use line_pick::standing_law;
 use list_plan::compile;
 use lit_base::{Fault, Fold, LitList, Profile, RawList};
+use lit_plan::Compiled;
 use std::alloc::Global;
 
 /// What stands for patterns in a search: the plan of their literals, where there are some, and whether

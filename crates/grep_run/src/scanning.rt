@@ -13,9 +13,9 @@ use crate::options::GrepOptions;
 use crate::request::{End, Request};
 use crate::status::Stop;
 use byte_io::{ByteIn, ByteOut, Failed, MAX_TURNS};
-use flow_scan::{EndFinder, LEAST_SAMPLE};
 use line_pick::{Fault, LineRule, Next, Picker};
 use std::alloc::AllocError;
+use text_search::{EndFinder, LEAST_SAMPLE};
 
 /// A finder that tunes itself to the inputs of a request, if the request has enough literals to gain by it.
 fn finder_for(request: &Request<'_>) -> Result<Option<EndFinder>, AllocError>

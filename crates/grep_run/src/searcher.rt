@@ -20,8 +20,8 @@ use crate::scanning::{picker_for, read_lines};
 use crate::status::Stop;
 use crate::tuning::MANY_INPUTS;
 use byte_io::{ByteIn, ByteOut, Opener, open_operand};
-use flow_scan::EndFinder;
 use std::alloc::AllocError;
+use text_search::EndFinder;
 
 /// How many bytes are read at once, at most. With pieces of a quarter of that a run that shows numbers takes 1.05 times
 /// as long, since each piece is written alone.

@@ -5,9 +5,10 @@ ghost use Rattle.lit_base.specs.Literals.{lengths};
 ghost use Rattle.lit_base.specs.Selected.{matches};
 ghost use Rattle.line_pick.specs.Matching.{StandingLaw, matched, picks};
 
-use flow_scan::{Compiled, EndFinder, first_end_after};
 use list_index::ListIndex;
+use lit_plan::Compiled;
 use memchr::memchr;
+use text_search::{EndFinder, first_end_after};
 
 /// Which lines are selected, given the patterns.
 #[derive(Clone, Copy, Debug, PartialEq, Eq)]

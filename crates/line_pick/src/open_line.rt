@@ -6,7 +6,8 @@ ghost use Rattle.line_pick.specs.Matching.{IsByPlan, literals_of, picks};
 ghost use Rattle.line_pick.specs.OpenLines.{IsDecided, IsDecidingPart, longest_in, longest_of, most_kept};
 
 use crate::matcher::{LineSearch, Matcher};
-use flow_scan::{Compiled, EndFinder, TextSearch, next_end_by};
+use lit_plan::Compiled;
+use text_search::{EndFinder, TextSearch, next_end_by};
 
 /// A part of a text, between two positions.
 #[derive(Drop)]

@@ -12,9 +12,10 @@ use crate::matcher::{LineRule, LineSearch, Matcher};
 use crate::progress::Progress;
 use crate::sink::{Next, Sink};
 use crate::state::State;
-use flow_scan::{Compiled, EndFinder};
+use lit_plan::Compiled;
 use std::alloc::Global;
 use std::marker::Model;
+use text_search::EndFinder;
 
 /// Emits the selected lines of a text that comes in pieces. It keeps only the current line, or what decides it.
 #[derive(Debug, Drop)]

@@ -12,8 +12,9 @@ use crate::matcher::{LineRule, LineSearch, Matcher, is_literal};
 use crate::sink::Sink;
 use crate::tuning::{HIT_BYTES, MOST_HITS_IN_A_ROW, SHORT_LINE_HIT_BYTES};
 use crate::whole_lines::WholeLines;
-use flow_scan::{Compiled, MOST_WITHOUT_FINDER};
+use lit_plan::Compiled;
 use text_lines::{HitLines, count_newlines, has_short_lines};
+use text_search::MOST_WITHOUT_FINDER;
 
 /// Emits the selected lines among those that a newline ends in the text, by the method that should take less time.
 /// Returns how many lines there are by its end, if they are numbered; `before` lines stand before it. Without numbers,

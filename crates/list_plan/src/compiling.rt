@@ -6,9 +6,9 @@ ghost use Rattle.lit_cert.specs.Certified.{IsCertified};
 ghost use Rattle.list_plan.specs.Planned.{IsPlanned};
 ghost use Rattle.run_planner.specs.declared.fault.Fault.TheVariants.{NoLiterals};
 
-use flow_scan::Compiled;
 use list_index::ListIndex;
 use lit_base::{LitList, Profile};
+use lit_plan::Compiled;
 use run_planner::{Fault, plan};
 use std::alloc::Global;
 

@@ -14,10 +14,10 @@ use crate::fields::{first_u16, first_u32};
 use crate::limits::{MAGIC, MAX_PLANS};
 use crate::literals::first_list;
 use crate::version::Version;
-use flow_scan::Compiled;
 use list_index::ListIndex;
 use lit_base::LitList;
 use lit_cert::Certificate;
+use lit_plan::Compiled;
 use std::alloc::Global;
 
 /// The version and the number of plans in the head at the start, and the bytes after it. It takes no memory.
@@ -67,7 +67,7 @@ fn first_plan(alloc: Global, version: Version, bytes: &[u8]) -> Result<(Compiled
     let index = ListIndex::new(alloc, entry.list)?;
     match Compiled::new(index, entry.certificate) {
         Ok(plan) => Ok((plan, rest)),
-        Err((flow_scan::Fault::NotCertified { reason }, _, _)) => {
+        Err((lit_plan::Fault::NotCertified { reason }, _, _)) => {
             Err(stop_at(bytes, Cause::NotCertified { reason }))
         }
         Err(_) => unreachable!(),

@@ -17,9 +17,9 @@ use crate::fault::Fault;
 use crate::limits::MAGIC;
 use crate::version::Version;
 use byte_io::{ByteOut, Failed, write_all};
-use flow_scan::Compiled;
 use lit_base::{LitList, Profile, flags_of};
 use lit_cert::Certificate;
+use lit_plan::Compiled;
 use std::alloc::{AllocError, Global};
 
 /// Appends the head of a file of `count` plans.

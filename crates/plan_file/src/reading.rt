@@ -11,7 +11,7 @@ use crate::decoding::decode;
 use crate::fault::Fault;
 use crate::limits::MAX_FILE_LEN;
 use byte_io::{ByteIn, ReadError, read_to_end};
-use flow_scan::Compiled;
+use lit_plan::Compiled;
 use std::alloc::Global;
 
 /// Reads a plan file of version 1 or 2 to its end.

@@ -14,8 +14,8 @@ use crate::packing::{Unmade, make};
 use crate::reading::plans_of;
 use crate::stop::Stop;
 use byte_io::{Files, push_number};
-use flow_scan::Compiled;
 use lit_base::Profile;
+use lit_plan::Compiled;
 use run_planner::plan;
 use std::alloc::{AllocError, Global};
 

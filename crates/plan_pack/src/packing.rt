@@ -11,8 +11,8 @@ use crate::notation::Reading;
 use crate::planning::plan_of;
 use crate::stop::{Refusal, Stop};
 use byte_io::{ByteOut, Files};
-use flow_scan::Compiled;
 use lit_base::Profile;
+use lit_plan::Compiled;
 use plan_file::{Fault, write_plans};
 use std::alloc::{AllocError, Global};
 

@@ -11,9 +11,9 @@ use crate::notation::Reading;
 use crate::reading::list_of;
 use crate::stop::{Refusal, Stop};
 use byte_io::Files;
-use flow_scan::Compiled;
 use list_plan::compile;
 use lit_base::{LitList, Profile};
+use lit_plan::Compiled;
 use run_planner::Fault;
 use std::alloc::Global;
 

@@ -11,8 +11,8 @@ use crate::notation::Reading;
 use crate::patterns::{Unlisted, patterns_of};
 use crate::stop::{Refusal, Stop};
 use byte_io::{ByteIn, Files, ReadError, open_operand, read_to_end};
-use flow_scan::Compiled;
 use lit_base::{Fault, LitList, Normal};
+use lit_plan::Compiled;
 use plan_file::read_plans;
 use std::alloc::Global;
 

@@ -1,5 +1,5 @@
 //! A number by which plans can be compared.
-use flow_scan::Compiled;
+use lit_plan::Compiled;
 
 /// The digest of no number.
 const START: u64 = 0xCBF2_9CE4_8422_2325;

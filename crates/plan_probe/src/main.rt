@@ -11,7 +11,7 @@ mod digest;
 use anyhow::{Result, anyhow};
 use byte_io::{CutOut, SystemFiles, open_operand};
 use digest::{digest_of, digest_of_bytes};
-use flow_scan::Compiled;
+use lit_plan::Compiled;
 use plan_file::{Cause, Fault, encode, read_plans, write_plans};
 use std::alloc::Global;
 use std::env;

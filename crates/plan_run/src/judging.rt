@@ -10,9 +10,9 @@ ghost use Rattle.plan_run.specs.Running.{Reports, is_write_fault};
 use crate::reporting::report;
 use crate::status::Status;
 use byte_io::{ByteIn, ByteOut, Files};
-use flow_scan::Compiled;
 use lit_base::LitList;
 use lit_cert::{Certificate, Fault, Reason, check, read_cert};
+use lit_plan::Compiled;
 use plan_pack::{Refusal, Stop, plans_of};
 use std::alloc::{AllocError, Global};
 

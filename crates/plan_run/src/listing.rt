@@ -7,10 +7,11 @@ use crate::reporting::{report, report_bytes};
 use crate::request::Scan;
 use crate::status::Status;
 use byte_io::{ByteOut, push_number};
-use flow_scan::{Compiled, Hit};
+use lit_plan::Compiled;
 use plan_pack::Stop;
 use plan_view::push_literal;
 use std::alloc::{AllocError, Global};
+use text_ends::Hit;
 
 /// How many hits are written at once.
 const HITS_AT_ONCE: usize = 2048;

@@ -8,7 +8,7 @@ ghost use Rattle.plan_store.specs.declared.fault.Fault.TheVariants.{OutOfMemory}
 use crate::fault::Fault;
 use crate::store::PlanStore;
 use crate::ticket::Ticket;
-use flow_scan::Compiled;
+use lit_plan::Compiled;
 use std::sync::Wait;
 use std::thread::{Threads, join};
 

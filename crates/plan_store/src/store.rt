@@ -6,7 +6,7 @@ ghost use Rattle.plan_store.specs.declared.fault.Fault.TheVariants.{OutOfMemory}
 
 use crate::fault::Fault;
 use crate::ticket::Ticket;
-use flow_scan::Compiled;
+use lit_plan::Compiled;
 use std::alloc::Global;
 use std::marker::Model;
 use std::sync::Wait;

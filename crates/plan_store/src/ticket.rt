@@ -2,7 +2,7 @@
 ghost use Rattle.std.specs.Prelude.{◌≡◌};
 
 use boxcar::Pushed;
-use flow_scan::Compiled;
+use lit_plan::Compiled;
 use std::marker::Model;
 
 /// Shows that a store has a plan under a number, for as long as the store lasts. It is used with the

@@ -1,9 +1,9 @@
 //! Plan files of both versions, written, read back, cut and altered.
 use byte_io::{CutIn, CutOut};
-use flow_scan::Compiled;
 use list_plan::compile;
 use lit_base::{Fold, LitList, Profile, RawList};
 use lit_cert::Reason;
+use lit_plan::Compiled;
 use plan_file::{Cause, Fault, decode, encode, read_back, read_plans, write_plans};
 use std::alloc::{AllocError, Global};
 use std::test::Fail;

@@ -2,9 +2,9 @@
 //! that it is found by any thread, and that no other number is.
 ghost use Rattle.plan_store.specs.Tickets.{IsOf};
 
-use flow_scan::Compiled;
 use list_plan::compile;
 use lit_base::{Fold, LitList, Profile, RawList};
+use lit_plan::Compiled;
 use plan_store::{
     PlanStore, Ticket, each_finds_the_other, numbers_are_apart, published_beside_a_find,
     published_is_found, published_is_shown, published_is_there,

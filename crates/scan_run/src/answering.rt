@@ -9,7 +9,6 @@ ghost use Rattle.scan_run.specs.Beside.{AgreeOn, AgreeReplied, IsEventBeside};
 
 use crate::feeding::answer_feed;
 use byte_io::ByteOut;
-use flow_scan::Hit;
 use lit_base::{Fold, Profile};
 use plan_store::Ticket;
 use scan_core::{Session, agrees_with};
@@ -17,6 +16,7 @@ use scan_serve::{Outbox, Stop};
 use scan_wire::{Borrowed, Reply};
 use std::alloc::Global;
 use std::sync::Wait;
+use text_ends::Hit;
 
 /// The law that tickets of a number agree with each ticket of a session of their store. It takes no memory.
 fn agree_on(loaded: &[Ticket], number: u64, session: &Session<'_>)

@@ -10,11 +10,11 @@ ghost use Rattle.scan_run.specs.Feeding.{FeedsOn, StopsFeeding};
 
 use crate::sending::{send_full, send_last};
 use byte_io::ByteOut;
-use flow_scan::Hit;
 use scan_core::Session;
 use scan_serve::{Outbox, Stop};
 use scan_wire::MAX_HITS;
 use std::alloc::Global;
+use text_ends::Hit;
 
 /// Feeds a prefix of a piece, and writes the hits gained by then in full replies; fewer hits than a reply takes remain.
 /// Returns how many bytes were fed.

@@ -7,8 +7,8 @@ ghost use Rattle.byte_io.specs.Transfers.{AppendsPart};
 ghost use Rattle.scan_run.specs.Loading.{Judges, Loads, LoadsAll, LoadsFile, LoadsNamed, PublishesPrefix, IsMessage, is_write_fault, message_on, plan_line};
 
 use byte_io::{ByteIn, ByteOut, Failed, Missing, Opener, write_all};
-use flow_scan::Compiled;
 use itoa::Buffer;
+use lit_plan::Compiled;
 use plan_file::{Fault, read_plans};
 use plan_store::{PlanStore, Ticket};
 use std::alloc::Global;

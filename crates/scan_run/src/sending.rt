@@ -8,9 +8,9 @@ ghost use Rattle.scan_serve.specs.Sending.{Sends, SendsLess};
 ghost use Rattle.scan_run.specs.Feeding.{SendsFull, SendsFullPrefix, last_block};
 
 use byte_io::ByteOut;
-use flow_scan::Hit;
 use scan_serve::{Outbox, Stop};
 use scan_wire::{MAX_HITS, Reply};
+use text_ends::Hit;
 
 /// Removes `count` hits from the start.
 fn drop_first(hits: &mut Vec<Hit>, count: usize)

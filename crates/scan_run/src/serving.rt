@@ -10,7 +10,6 @@ ghost use Rattle.scan_run.specs.Seen.{IsStepByBytes};
 
 use crate::answering::answer_request;
 use byte_io::{ByteIn, ByteOut};
-use flow_scan::Hit;
 use plan_store::{PlanStore, Ticket};
 use scan_core::Session;
 use scan_serve::{Answer, Ended, Outbox, Stop};
@@ -18,6 +17,7 @@ use scan_wire::Borrowed;
 use std::alloc::Global;
 use std::marker::Model;
 use std::sync::Wait;
+use text_ends::Hit;
 
 /// A session, with the parts that it needs to answer over a stream.
 #[derive(Drop)]

@@ -7,10 +7,10 @@ ghost use Rattle.scan_serve.specs.Sending.{Sends, SendsLess};
 
 use crate::stop::Stop;
 use byte_io::{ByteOut, Failed, write_all};
-use flow_scan::Hit;
 use scan_wire::{Reply, append_hits, append_reply};
 use std::alloc::Global;
 use std::marker::Model;
+use text_ends::Hit;
 
 /// The number of waiting bytes at which they are written.
 const FULL: usize = 65_536;

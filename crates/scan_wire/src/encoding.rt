@@ -13,9 +13,9 @@ use crate::kinds::{
 };
 use crate::message::Reply;
 use crate::numbers::{push_u16, push_u32, push_u64};
-use flow_scan::Hit;
 use lit_base::{Fold, Profile, flags_of};
 use std::alloc::{AllocError, Global};
+use text_ends::Hit;
 
 /// Appends the head of a frame, before a payload of `len` bytes.
 fn push_head(out: &mut Vec<u8>, kind: u8, stream: u32, len: u32) -> Result<(), AllocError>

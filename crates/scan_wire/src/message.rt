@@ -4,9 +4,9 @@ ghost use Rattle.scan_wire.specs.declared.fault.Fault.TheVariants.{OutOfMemory};
 ghost use Rattle.scan_wire.specs.Messages.{IsFeed, borrowed_parts, request_parts};
 
 use crate::fault::Fault;
-use flow_scan::Hit;
 use lit_base::{Ends, Fold, Profile};
 use std::alloc::Global;
+use text_ends::Hit;
 
 /// Bytes of a payload, at most.
 pub const MAX_PAYLOAD: usize = 65_536;

@@ -3,13 +3,13 @@ ghost use Rattle.std.specs.Prelude.{IfOk};
 ghost use Rattle.scan_wire.specs.Frames.{FitsReply};
 ghost use Rattle.scan_wire.specs.Messages.{reply_parts};
 
-use flow_scan::Hit;
 use lit_base::{Ends, Fold, Profile};
 use scan_wire::{
     Borrowed, Cause, Decoder, Fault, Reply, Request, append_hits, append_reply, encode_reply, next,
 };
 use std::alloc::{AllocError, Global};
 use std::test::Fail;
+use text_ends::Hit;
 
 /// The Publish of `cat`, then the Open of stream 7 with plan 0.
 static FRAMES: [u8; 34] = [

@@ -8,8 +8,9 @@ ghost use Rattle.text_lines.specs.HitLines.{AllMiss, IsFirstHitLine};
 
 use crate::column::Column;
 use crate::cutting::{split_line_after, split_near_line, split_prefix};
-use flow_scan::{Compiled, EndFinder, TextSearch, next_end_by};
+use lit_plan::Compiled;
 use std::marker::Model;
+use text_search::{EndFinder, TextSearch, next_end_by};
 
 /// A line that holds a literal, with the text round it.
 #[derive(Drop)]
