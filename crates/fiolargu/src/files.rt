@@ -1,10 +1,8 @@
 //! Exports that read and write plan files, and the version.
-ghost use Rattle.std.specs.Prelude.{◌≡◌, ◌≤◌, ◌<◌, ◌⊎◌, ◌↔◌, List, [], ◌∷◌, IfErr, IfOk, IfSome, None, Some, drop, length, take};
+ghost use Rattle.std.specs.Prelude.{◌≡◌, ◌≤◌, ◌<◌, ◌⊎◌, ◌↔◌, List, [], ◌∷◌, IfErr, IfOk, IfSome, None, drop, length, take};
 ghost use Rattle.std.specs.List.{slice_get};
 ghost use Rattle.lit_plan.specs.Plans.{Plan};
-ghost use Rattle.plan_file.specs.FirstFaults.{IsFirstFault};
 ghost use Rattle.plan_file.specs.Spelling.{AnnouncesPlans, IsFile, spelling};
-ghost use Rattle.plan_file.specs.declared.fault.Cause.{Cause};
 ghost use Rattle.plan_file.specs.declared.version.Version.TheVariants.{Two};
 ghost use Rattle.fiolargu.specs.Files.{FaultIn, PlanIn, PlansIn};
 ghost use Rattle.fiolargu.specs.Found.{plan_of};

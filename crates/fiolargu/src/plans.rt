@@ -1,5 +1,5 @@
 //! Exports that make, share, show and free plans.
-ghost use Rattle.std.specs.Prelude.{◌≡◌, ◌-◌, ◌≤◌, ◌<◌, ◌⊎◌, ◌↔◌, [], IsSomeAnd, IfSome, None, Some, drop, length, take};
+ghost use Rattle.std.specs.Prelude.{◌≡◌, ◌≤◌, ◌<◌, ◌⊎◌, ◌↔◌, [], IsSomeAnd, IfSome, None, Some, drop, length, take};
 ghost use Rattle.std.specs.List.{slice_get};
 ghost use Rattle.lit_base.specs.Flags.{fold_of};
 ghost use Rattle.lit_base.specs.Lines.{lines};

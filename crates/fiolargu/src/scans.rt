@@ -1,5 +1,5 @@
 //! Exports that search texts in memory, and what writes hits for C.
-ghost use Rattle.std.specs.Prelude.{◌≡◌, ◌-◌, ◌≤◌, ◌<◌, ◌⊎◌, ◌↔◌, [], IfSome, None, Some, drop, length, map, take};
+ghost use Rattle.std.specs.Prelude.{◌≡◌, ◌-◌, ◌≤◌, ◌<◌, ◌⊎◌, ◌↔◌, [], IfSome, None, drop, length, map, take};
 ghost use Rattle.std.specs.List.{slice_get};
 ghost use Rattle.lit_base.specs.NextEnds.{NoEndAfter};
 ghost use Rattle.text_ends.specs.HitsAfter.{StopsAt};

@@ -1,5 +1,5 @@
 //! A run of grep.
-ghost use Rattle.std.specs.Prelude.{◌≡◌, ◌≢◌, ◌||◌, ◌&&◌, [], IfOk, OnErr, OnOk, false, if◌then◌else◌};
+ghost use Rattle.std.specs.Prelude.{◌≡◌, ◌≢◌, ◌||◌, [], IfOk, OnErr, OnOk, false};
 ghost use Rattle.byte_io.specs.Sources.{AreShort};
 ghost use Rattle.byte_io.specs.Devices.{IfKnown};
 ghost use Rattle.grep_run.specs.Gathering.{Refuses};

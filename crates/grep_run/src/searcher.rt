@@ -1,5 +1,5 @@
 //! Inputs searched one after another: their blocks, their messages, and what was found.
-ghost use Rattle.std.specs.Prelude.{◌≡◌, ℕ, ◌<◌, ◌≤◌, ◌||◌, ◌&&◌, Bool, List, [], IfOk, IfSome, IsOk, None, OnErr, OnOk, Some, false, if◌then◌else◌, map, not, string_bytes, true, vec_len};
+ghost use Rattle.std.specs.Prelude.{◌≡◌, ◌<◌, ◌≤◌, ◌||◌, ◌&&◌, [], IfOk, IfSome, IsOk, None, OnErr, OnOk, Some, false, if◌then◌else◌, map, not, string_bytes, true, vec_len};
 ghost use Rattle.std.proofs.Props.{props};
 ghost use Rattle.byte_io.specs.Sources.{Content, IsShort, ask_of, coming_of};
 ghost use Rattle.byte_io.specs.Devices.{IfKnown};

@@ -1,5 +1,5 @@
 //! A text in parts, each scanned by a worker of its own.
-ghost use Rattle.std.specs.Prelude.{◌+◌, ◌-◌, ◌*◌, ◌<◌, ◌≤◌, IfOk, IsOk, IsOkUnless, length};
+ghost use Rattle.std.specs.Prelude.{◌+◌, ◌*◌, ◌<◌, ◌≤◌, IfOk, IsOk, IsOkUnless, length};
 ghost use Rattle.lit_base.specs.Occurrences.{IsHits};
 ghost use Rattle.lit_base.specs.NextEnds.{NoEndAfter};
 ghost use Rattle.text_ends.specs.HitsAfter.{Continues};

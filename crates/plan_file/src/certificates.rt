@@ -1,7 +1,6 @@
 //! The certificate of an entry.
-ghost use Rattle.std.specs.Prelude.{◌≤◌, ◌*◌};
+ghost use Rattle.std.specs.Prelude.{◌≤◌};
 ghost use Rattle.std.specs.Int.{w16, w64};
-ghost use Rattle.lit_base.specs.Profiles.{buckets};
 ghost use Rattle.lit_base.specs.declared.limits.TheConstants.{MAX_LITERALS};
 ghost use Rattle.plan_file.specs.Faults.{Gives};
 ghost use Rattle.plan_file.specs.Reading.{certificate_at, numbers_at};

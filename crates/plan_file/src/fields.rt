@@ -1,6 +1,6 @@
 //! Fields of a plan file, each read from the start of the remaining bytes. A field that is not whole is an error with
 //! the cause `Short`.
-ghost use Rattle.std.specs.Prelude.{◌≡◌, ◌≢◌};
+ghost use Rattle.std.specs.Prelude.{◌≢◌};
 ghost use Rattle.std.specs.Int.{w16, w32, w64};
 ghost use Rattle.plan_file.specs.Faults.{Gives};
 ghost use Rattle.plan_file.specs.Reading.{byte_at, bytes_at, number_at};

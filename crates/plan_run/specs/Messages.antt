@@ -1,6 +1,6 @@
 -- What is written: the messages on a failed write and on want of memory, where an input is wrong, the verdicts on a
 -- certificate, and hits.
-use Rattle.std.specs.Prelude.{ℕ, ◌+◌, ◌-◌, Bool, List, [], ◌++◌, codes, decimal, flat_map, length, if◌then◌else◌, Option, None, Some}
+use Rattle.std.specs.Prelude.{ℕ, ◌+◌, ◌-◌, Bool, List, ◌++◌, codes, decimal, flat_map, length, if◌then◌else◌, Option, None, Some}
 use Rattle.std.specs.List.{slice_get}
 use Rattle.lit_base.specs.Literals.{Literals}
 use Rattle.lit_base.specs.declared.fault.Fault.{Fault}

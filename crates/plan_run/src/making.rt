@@ -1,5 +1,5 @@
 //! Answers that make a plan file.
-ghost use Rattle.std.specs.Prelude.{◌≡◌, ◌||◌, IfErr, List, Option, false, map, string_bytes, ℕ, ◌<◌};
+ghost use Rattle.std.specs.Prelude.{◌≡◌, ◌||◌, IfErr, List, Option, false, map, string_bytes, ℕ};
 ghost use Rattle.byte_io.specs.Devices.{IfKnown};
 ghost use Rattle.byte_io.specs.Sources.{AreShort};
 ghost use Rattle.plan_pack.specs.Asking.{Asks, LeavesMigrate, UnlessStarved, migrate_asks, pack_asks};

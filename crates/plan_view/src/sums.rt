@@ -1,5 +1,5 @@
 //! The text below the rows: the costs of the plan and of other groupings, and the dropped patterns.
-ghost use Rattle.std.specs.Prelude.{◌≡◌, ◌+◌, ◌^◌, ◌<◌, ◌≤◌, ◌++◌, OnOk, decimal, flat_map, length, take};
+ghost use Rattle.std.specs.Prelude.{◌≡◌, ◌^◌, ◌<◌, ◌≤◌, ◌++◌, OnOk, decimal, flat_map, length, take};
 ghost use Rattle.lit_base.specs.Literals.{lengths};
 ghost use Rattle.lit_base.specs.Profiles.{buckets};
 ghost use Rattle.plan_view.specs.Texts.{count_line, drops, even_label, even_parts, part_cost, part_start, repeat_line, single, sum_line, sums};

@@ -2,7 +2,7 @@
 ghost use Rattle.std.specs.Prelude.{◌≡◌, ◌+◌, ◌++◌, ◌^◌, ◌≤◌, ◌<◌, IfOk, IfSome, IsOk, IsOkUnless, MatchOption, OnErr, length};
 ghost use Rattle.lit_base.specs.NextEnds.{NoEndAfter};
 ghost use Rattle.plan_store.specs.Tickets.{IsOf};
-ghost use Rattle.flow_scan.specs.Scanners.{fed, started};
+ghost use Rattle.flow_scan.specs.Scanners.{started};
 ghost use Rattle.scan_wire.specs.Messages.{reply_parts};
 ghost use Rattle.scan_core.specs.Sessions.{IsBound};
 ghost use Rattle.scan_core.specs.Steps.{IsSound, plan_reply};

@@ -1,6 +1,5 @@
 //! Replies on their way.
 ghost use Rattle.std.specs.Prelude.{◌≡◌, ◌≢◌, ◌<◌, ◌++◌, [], length, IsTrue, OnErr, OnOk};
-ghost use Rattle.std.specs.Io.KnownBytes.{Appends};
 ghost use Rattle.scan_wire.specs.Frames.{FitsReply, IsBlock, reply_text};
 ghost use Rattle.scan_wire.specs.Messages.{Hits, reply_parts};
 ghost use Rattle.scan_serve.specs.Sending.{Sends, SendsLess};

@@ -1,5 +1,5 @@
 //! The bytes that were read and not yet answered.
-ghost use Rattle.std.specs.Prelude.{◌≡◌, ◌<◌, ◌≤◌, ◌+◌, ◌*◌, ◌||◌, [], drop, length, min, take, vec_capacity, IfOk, IsTrue, OnErr, is_err};
+ghost use Rattle.std.specs.Prelude.{◌≡◌, ◌<◌, ◌≤◌, ◌+◌, ◌||◌, [], drop, length, min, take, vec_capacity, IfOk, IsTrue, OnErr, is_err};
 ghost use Rattle.byte_io.specs.Devices.{EndsHere, IfKnown, count_of};
 ghost use Rattle.byte_io.specs.Transfers.{ReadsInto};
 ghost use Rattle.scan_serve.specs.declared.window.TheConstants.{ROOM};
