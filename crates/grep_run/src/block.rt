@@ -49,7 +49,7 @@ impl<'a> Block<'a> {
     pub fn write<W: ByteOut>(&mut self, out: &mut W) -> Result<(), Stop>
         ensures ok { OnOk result (Writes (writer W.written W.has_failed out.old) (writer W.written W.has_failed out.new) self.old.text.items) }
         ensures empty { OnOk result (self.new.text.items ≡ []) }
-        ensures stopped { OnErr result (WritesPrefix (writer W.written W.has_failed out.old) (writer W.written W.has_failed out.new) self.old.text.items) }
+        ensures err { OnErr result (WritesPrefix (writer W.written W.has_failed out.old) (writer W.written W.has_failed out.new) self.old.text.items) }
         ensures fault { OnErr result (result ≡ Err Stop.WriteFault) }
         ensures same { IsSameBlock self.old self.new }
         ensures flag { W.has_failed out.new ≡ (W.has_failed out.old || is_write_fault result) }
@@ -64,7 +64,7 @@ impl<'a> Block<'a> {
     pub fn finish<W: ByteOut>(&mut self, out: &mut W) -> Result<(), Stop>
         ensures ok { OnOk result (Writes (writer W.written W.has_failed out.old) (writer W.written W.has_failed out.new)
             (self.old.text.items ++ ending_of self.old.options.now self.old.name.now self.old.count)) }
-        ensures stopped { OnErr result (WritesPrefix (writer W.written W.has_failed out.old) (writer W.written W.has_failed out.new)
+        ensures err { OnErr result (WritesPrefix (writer W.written W.has_failed out.old) (writer W.written W.has_failed out.new)
             (self.old.text.items ++ ending_of self.old.options.now self.old.name.now self.old.count)) }
         ensures count { OnOk result (self.new.count ≡ self.old.count) }
         ensures flag { W.has_failed out.new ≡ (W.has_failed out.old || is_write_fault result) }

@@ -110,7 +110,7 @@ fn say<E: ByteOut>(alloc: Global, why: NoPatterns<'_>, err: &mut E) -> Result<()
 fn say_fault<E: ByteOut>(alloc: Global, fault: Fault, err: &mut E) -> Result<(), Stop>
     ensures other { OnOk result (fault ≢ Fault.OutOfMemory) }
     ensures ok { OnOk result (Writes (writer E.written E.has_failed err.old) (writer E.written E.has_failed err.new) (patterns_refused fault)) }
-    ensures stopped { OnErr result (WritesPrefix (writer E.written E.has_failed err.old) (writer E.written E.has_failed err.new) (patterns_refused fault)) }
+    ensures err { OnErr result (WritesPrefix (writer E.written E.has_failed err.old) (writer E.written E.has_failed err.new) (patterns_refused fault)) }
     ensures starved { OnErr result (E.has_failed err.new ≡ false
         → Writes (writer E.written E.has_failed err.old) (writer E.written E.has_failed err.new) []) }
     ensures unreported { fault ≡ Fault.OutOfMemory → Writes (writer E.written E.has_failed err.old) (writer E.written E.has_failed err.new) [] }

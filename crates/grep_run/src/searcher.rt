@@ -222,7 +222,7 @@ impl<'a> Searcher<'a> {
     fn report<E: ByteOut>(&self, name: &str, is_error: bool, err: &mut E) -> Result<(), Stop>
         ensures ok { OnOk result (Writes (writer E.written E.has_failed err.old) (writer E.written E.has_failed err.new)
             (if is_error && not self.now.request.options.now.silent then unreadable name.now else [])) }
-        ensures cut { OnErr result (WritesPrefix (writer E.written E.has_failed err.old) (writer E.written E.has_failed err.new)
+        ensures err { OnErr result (WritesPrefix (writer E.written E.has_failed err.old) (writer E.written E.has_failed err.new)
             (if is_error && not self.now.request.options.now.silent then unreadable name.now else [])) }
         ensures starved { OnErr result (E.has_failed err.new ≡ false
             → Writes (writer E.written E.has_failed err.old) (writer E.written E.has_failed err.new) []) }

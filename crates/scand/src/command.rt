@@ -183,7 +183,7 @@ fn cannot_listen(alloc: Global, port: u16) -> Result<String, AllocError>
 
 /// Writes the message on words that are refused. Where that cannot be written, only the status shows it.
 fn refuse<E: ByteOut>(fault: &Fault, err: &mut E) -> Status
-    ensures trouble { result ≡ Status.Trouble }
+    ensures status { result ≡ Status.Trouble }
     ensures said { Says (E.has_failed err.new) (E.written err.old) (E.written err.new) (message_on out_of_memory fault.now) }
 {
     explain(fault, err);

@@ -7,4 +7,4 @@ returns-in-Unreadable-clause-reported g c = rw c.in-Unreadable.is (Refuses-file 
 
 pub returns-in-Refused-clause-reported : goal.returns-in-Refused-clause-reported
 returns-in-Refused-clause-reported g c =
-    rw c.in-Refused.is (Refuses-fault c.in-Refused.fault _ _ _ c.say_fault.ensures.other c.say_fault.ensures.ok c.say_fault.ensures.stopped c.say_fault.ensures.starved c.say_fault.ensures.unreported)
+    rw c.in-Refused.is (Refuses-fault c.in-Refused.fault _ _ _ c.say_fault.ensures.other c.say_fault.ensures.ok c.say_fault.ensures.err c.say_fault.ensures.starved c.say_fault.ensures.unreported)

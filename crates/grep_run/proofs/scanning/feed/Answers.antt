@@ -13,7 +13,7 @@ returns-in_err-write-in-Ok-More-clause-answer g c =
     let p = err_from_is_err_and c.from_residual-in_err-write-in-Ok-More.result c.from_residual-in_err-write-in-Ok-More.ensures.1 in
     rw p.1 (λ o test name text before s.
     let t = stands-tuned c.tune_if.ensures s in
-    fed-cut c.args.piece.now c.feed.new.self c.feed.new.sink _ t _ (feeds-as c.in-Ok-More.field-0-is (c.in-Ok-More.ensures.running t.fed.state)) c.in_err-write-in-Ok-More.ensures.stopped)
+    fed-cut c.args.piece.now c.feed.new.self c.feed.new.sink _ t _ (feeds-as c.in-Ok-More.field-0-is (c.in-Ok-More.ensures.running t.fed.state)) c.in_err-write-in-Ok-More.ensures.err)
 
 pub returns-in_ok-write-in-Ok-More-clause-answer : goal.returns-in_ok-write-in-Ok-More-clause-answer
 returns-in_ok-write-in-Ok-More-clause-answer g c = λ o test name text before s.

@@ -8,7 +8,7 @@ use Rattle.scand.specs.Commands.{Served, Starved, Unplanned}
 use Rattle.scand.proofs.command.run.Goals as goal
 
 pub returns-in_default-clause-runs : goal.returns-in_default-clause-runs
-returns-in_default-clause-runs g c = Starved c.refuse.ensures.trouble refl refl (Appends-nil (g.O.ByteOut.written c.args.out.now)) c.refuse.ensures.said
+returns-in_default-clause-runs g c = Starved c.refuse.ensures.status refl refl (Appends-nil (g.O.ByteOut.written c.args.out.now)) c.refuse.ensures.said
 
 pub serve_over-requires-clause-here : goal.serve_over-requires-clause-here
 serve_over-requires-clause-here g c κs within =

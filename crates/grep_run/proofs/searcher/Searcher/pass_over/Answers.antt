@@ -10,7 +10,7 @@ returns-in_err-report-clause-answer g c =
     let p = err_from_is_err_and c.from_residual.result c.from_residual.ensures.1 in
     rw p.1 (λ out. record {
       output = WritesPrefix-none out [];
-      messages = c.in_err-report.ensures.cut;
+      messages = c.in_err-report.ensures.err;
       quiet = λ clear set. apart out.has_failed set clear;
       starved = c.in_err-report.ensures.starved;
       loud = λ none silent. false≢true (c.in_err-report.ensures.silent silent);

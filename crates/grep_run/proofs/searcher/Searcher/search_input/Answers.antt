@@ -17,14 +17,14 @@ returns-in_err-finish-clause-answer g c =
     let p = err_from_is_err_and c.from_residual-in_err-finish.result c.from_residual-in_err-finish.ensures.1 in
     rw p.1 (λ d e short.
     let read = c.in_ok-end.ensures.answer _ _ _ d _ (begin-stands _ c.picker_for-picker.ensures.fed c.picker_for-picker.ensures.numbers c.picker_for-picker.ensures.seen c.begin.ensures.options c.begin.ensures.name c.begin.ensures.count c.begin.ensures.text) e short in
-    finished-cut read _ _ c.in_err-finish.ensures.stopped)
+    finished-cut read _ _ c.in_err-finish.ensures.err)
 
 pub returns-in_err-report-clause-answer : goal.returns-in_err-report-clause-answer
 returns-in_err-report-clause-answer g c =
     let p = err_from_is_err_and c.from_residual-in_err-report.result c.from_residual-in_err-report.ensures.1 in
     rw p.1 (λ d e short.
     let read = c.in_ok-end.ensures.answer _ _ _ d _ (begin-stands _ c.picker_for-picker.ensures.fed c.picker_for-picker.ensures.numbers c.picker_for-picker.ensures.seen c.begin.ensures.options c.begin.ensures.name c.begin.ensures.count c.begin.ensures.text) e short in
-    message-cut read _ (nat_lt 0 c.finish.new.self.count) c.is_fault.result _ _ c.in_ok-finish.ensures.ok (ap (nat_lt 0) c.in_ok-finish.ensures.count) c.is_fault.ensures c.in_err-report.ensures.cut c.in_err-report.ensures.starved)
+    message-cut read _ (nat_lt 0 c.finish.new.self.count) c.is_fault.result _ _ c.in_ok-finish.ensures.ok (ap (nat_lt 0) c.in_ok-finish.ensures.count) c.is_fault.ensures c.in_err-report.ensures.err c.in_err-report.ensures.starved)
 
 pub returns-clause-answer : goal.returns-clause-answer
 returns-clause-answer g c = λ d e short.
