@@ -186,11 +186,12 @@ fn refuse<E: ByteOut>(fault: &Fault, err: &mut E) -> Status
     ensures status { result ≡ Status.Trouble }
     ensures said { Says (E.has_failed err.new) (E.written err.old) (E.written err.new) (message_on out_of_memory fault.now) }
 {
-    explain(fault, err);
+    say_fault(fault, err);
     Status::Trouble
 }
 
-fn explain<E: ByteOut>(fault: &Fault, err: &mut E)
+/// Writes the message on words that are refused. If a write fails, a prefix of it may be written.
+fn say_fault<E: ByteOut>(fault: &Fault, err: &mut E)
     ensures { Says (E.has_failed err.new) (E.written err.old) (E.written err.new) (message_on out_of_memory fault.now) }
 {
     match fault {
