@@ -9,7 +9,7 @@ use Rattle.nib_mask.specs.FilterSet.{filter_set}
 use Rattle.nib_mask.specs.Tables.{table_value, value_at}
 use Rattle.nib_mask.specs.declared.masks.Masks.{Masks}
 use Rattle.plan_view.specs.Endings.{endings}
-use Rattle.plan_view.specs.Terms.{sum_below}
+use Rattle.plan_view.specs.Sums.{sum_below}
 use Rattle.plan_view.proofs.Ranges.{sum_of_products}
 
 -- of two bits the least is the product

@@ -5,7 +5,7 @@ use Rattle.std.proofs.Math.Nat.{mul_assoc, mul_comm, mul_left_comm}
 use Rattle.std.proofs.lemmas.Grind.{flat_map-append}
 use Rattle.std.proofs.lemmas.List.FromFn.{sum_by-map-range_with_len_more, map-range_with_len_more}
 use Rattle.plan_view.specs.Repeats.{earlier, repeat_at, repeats}
-use Rattle.plan_view.specs.Terms.{sum_below}
+use Rattle.plan_view.specs.Sums.{sum_below}
 
 -- a list is its own map
 same_map : (xs : List ℕ) → map (λ x. x) xs ≡ xs

@@ -4,5 +4,5 @@ pub mod Endings
 pub mod Quotes
 pub mod Repeats
 pub mod Rows
-pub mod Terms
+pub mod Sums
 pub mod Texts

@@ -8,7 +8,7 @@ use Rattle.lit_base.specs.declared.profile.Profile.TheVariants.{Eight, Sixteen}
 use Rattle.plan_view.specs.Columns.{columns}
 use Rattle.plan_view.specs.Repeats.{nulls, repeats}
 use Rattle.plan_view.specs.Rows.{percent, rows_from, total_of}
-use Rattle.plan_view.specs.Terms.{sum_below}
+use Rattle.plan_view.specs.Sums.{sum_below}
 
 -- the names of the columns
 abbrev pub heading : List ℕ

@@ -5,7 +5,7 @@ ghost use Rattle.lit_base.specs.Literals.{Literals};
 ghost use Rattle.nib_mask.specs.Candidates.{GivesFilterSets};
 ghost use Rattle.nib_mask.specs.Tables.{value_at};
 ghost use Rattle.plan_view.specs.Endings.{endings};
-ghost use Rattle.plan_view.specs.Terms.{sum_below};
+ghost use Rattle.plan_view.specs.Sums.{sum_below};
 
 use nib_mask::{Masks, value_at};
 

@@ -1,7 +1,7 @@
 use Rattle.std.proofs.Common.{◌≡◌, ◌≤◌}
 use Rattle.std.specs.Int.{bit_at}
 use Rattle.nib_mask.specs.Tables.{value_at}
-use Rattle.plan_view.specs.Terms.{sum_below}
+use Rattle.plan_view.specs.Sums.{sum_below}
 use Rattle.plan_view.proofs.endings.kept.Given as goal
 
 -- the bits of the bytes so far were added up

@@ -1,6 +1,6 @@
 use Rattle.std.proofs.Common.{◌≡◌, ◌≤◌, ◌*◌, ◌+◌, ◌^◌}
 use Rattle.lit_base.specs.Literals.{lengths}
-use Rattle.plan_view.specs.Terms.{sum_below}
+use Rattle.plan_view.specs.Sums.{sum_below}
 use Rattle.plan_view.specs.Texts.{part_cost, part_start}
 use Rattle.plan_view.proofs.sums.even_parts.Given as goal
 
