@@ -1,5 +1,5 @@
-//! A plan as a text for people: what each bucket holds and costs, what other groupings would cost, and which patterns
-//! were dropped.
+//! A plan for people, as a text or a drawing: what each bucket holds and costs, and what other groupings would cost. The
+//! text also says which patterns were dropped.
 #![tactic(auto)]
 
 mod columns;
@@ -9,9 +9,9 @@ mod quotes;
 mod repeats;
 mod rows;
 mod sums;
+mod text;
 mod view;
-mod viewing;
 
 pub use drawing::plan_svg;
 pub use quotes::push_literal;
-pub use viewing::plan_text;
+pub use text::plan_text;

@@ -1,4 +1,4 @@
-//! The whole text.
+//! A plan as a text.
 ghost use Rattle.std.specs.Prelude.{◌≡◌, IfOk, length};
 ghost use Rattle.lit_base.specs.Cuts.{IsCut};
 ghost use Rattle.plan_view.specs.Texts.{plan_text};
@@ -10,6 +10,7 @@ use lit_base::{Ends, LitList, Profile};
 use nib_mask::Masks;
 use std::alloc::{AllocError, Global};
 
+/// The names of the columns.
 const HEADING: &[u8] =
     b"bucket  literals  shortest  bytes  weight        cost    %   endings  first and last literal\n";
 
