@@ -3,12 +3,12 @@
 #![tactic(auto)]
 
 mod answer;
+mod answering;
 mod ended;
 mod frames;
 mod outbox;
 mod serving;
 mod stop;
-mod turn;
 mod window;
 
 pub use answer::Answer;

@@ -5,10 +5,10 @@ ghost use Rattle.scan_serve.specs.declared.ended.Ended.TheVariants.{OutOfMemory,
 ghost use Rattle.scan_serve.specs.Serving.{EndsAs, GoesOnServing, IsServedPrefix};
 
 use crate::answer::Answer;
+use crate::answering::answer_window;
 use crate::ended::Ended;
 use crate::outbox::Outbox;
 use crate::stop::Stop;
-use crate::turn::answer_window;
 use crate::window::Window;
 use byte_io::{ByteIn, ByteOut, MAX_TURNS};
 use std::alloc::Global;

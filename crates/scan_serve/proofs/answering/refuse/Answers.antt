@@ -3,7 +3,7 @@ use Rattle.std.proofs.lemmas.Result.{on_ok_weaker}
 use Rattle.scan_wire.specs.Frames.{reply_text}
 use Rattle.scan_wire.specs.Messages.{ReplyParts}
 use Rattle.scan_serve.proofs.SendLemmas.{err_weaker, sends_is, sends_then_failed, sends_then_flushed}
-use Rattle.scan_serve.proofs.turn.refuse.Goals as goal
+use Rattle.scan_serve.proofs.answering.refuse.Goals as goal
 
 pub returns-clause-ok : goal.returns-clause-ok
 returns-clause-ok g c =

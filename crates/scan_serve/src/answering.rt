@@ -1,4 +1,4 @@
-//! One turn of serving: the answers to all frames that are whole, once they are written.
+//! Answering all frames of a window that are whole, and writing the replies.
 ghost use Rattle.std.specs.Prelude.{◌≡◌, ◌≢◌, [], IfOk, IsTrue, MatchOption, OnErr, OnOk};
 ghost use Rattle.scan_wire.specs.Frames.{FitsReply, reply_text};
 ghost use Rattle.scan_wire.specs.Messages.{reply_parts};

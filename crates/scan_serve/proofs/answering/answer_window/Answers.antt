@@ -2,7 +2,7 @@ use Rattle.std.proofs.Common.{◌∙◌, ℕ, List, drop, ap, sym, subst}
 use Rattle.std.proofs.lemmas.Result.{err_from_is_err_and}
 use Rattle.scan_serve.specs.Answering.{AnswersAll, AnswersPrefix, AnswersTextPrefix, GoesOn}
 use Rattle.scan_serve.proofs.TurnLemmas.{goes_on, stops_answering, stops_flushing, stops_refusing}
-use Rattle.scan_serve.proofs.turn.answer_window.Goals as goal
+use Rattle.scan_serve.proofs.answering.answer_window.Goals as goal
 
 pub returns-in_ok-flush-in-Ok-clause-answers : goal.returns-in_ok-flush-in-Ok-clause-answers
 returns-in_ok-flush-in-Ok-clause-answers g c =
