@@ -7,7 +7,7 @@ ghost use Rattle.flow_scan.specs.Tails.{StopsIn};
 ghost use Rattle.scan_core.specs.declared.fault.Fault.TheVariants.{OutOfMemory};
 
 use crate::fault::Fault;
-use crate::tuning::MOST_STRANGE;
+use crate::tuning::MAX_FED_TO_OTHERS;
 use flow_scan::{EndFinder, Hit, HitSearch, LEAST_WITH_FINDER, PrefilterSearch, Scanner};
 use plan_store::{PlanStore, Ticket};
 use std::alloc::Global;
@@ -63,7 +63,7 @@ impl TicketFinder {
 pub(crate) struct SessionFinder {
     own: Option<TicketFinder>,
     /// How many bytes were fed to long streams of other plans since a stream of its own plan was fed.
-    strange: usize,
+    fed_to_others: usize,
 }
 
 /// A contract sees the ticket of its plan.
@@ -83,7 +83,7 @@ impl SessionFinder {
     {
         SessionFinder {
             own: None,
-            strange: 0,
+            fed_to_others: 0,
         }
     }
 
@@ -103,9 +103,9 @@ impl SessionFinder {
         ensures { IfSome self.new (IsOf store.now) }
     {
         if self.is_by(store, ticket) {
-            self.strange = 0;
+            self.fed_to_others = 0;
         } else if place >= LEAST_WITH_FINDER {
-            self.strange = self.strange.saturating_add(count);
+            self.fed_to_others = self.fed_to_others.saturating_add(count);
             self.make_if_due(alloc, store, ticket);
         }
     }
@@ -116,9 +116,9 @@ impl SessionFinder {
         requires ticket { IsOf store.now ticket.now }
         ensures { IfSome self.new (IsOf store.now) }
     {
-        if self.own.is_none() || self.strange >= MOST_STRANGE {
+        if self.own.is_none() || self.fed_to_others >= MAX_FED_TO_OTHERS {
             self.own = TicketFinder::by_plan_of(alloc, store, ticket);
-            self.strange = 0;
+            self.fed_to_others = 0;
         }
     }
 

@@ -83,7 +83,7 @@ impl Decoder {
             → (self.new ≡ self.old) × (out.new.items ≡ out.old.items) }
     {
         let held = self.rest.len();
-        let handed_out = out.len();
+        let out_len = out.len();
         self.rest.extend_from_slice(piece)?;
         let mut place = 0;
         let read = read_requests(self.alloc, &self.rest, &mut place, out);
@@ -99,7 +99,7 @@ impl Decoder {
             }
             Err(Fault::OutOfMemory) => {
                 self.rest.truncate(held);
-                out.truncate(handed_out);
+                out.truncate(out_len);
                 Err(Fault::OutOfMemory)
             }
         }
