@@ -8,7 +8,7 @@ use Rattle.byte_io.proofs.KnownLemmas.{IfKnown-none, IfKnown-then, IfKnown-weake
 use Rattle.lit_plan.specs.Plans.{Plan}
 use Rattle.plan_pack.specs.Asking.{Asks, asks_for_plans, pack_asks, reads_file}
 use Rattle.lit_base.specs.declared.profile.Profile.{Profile}
-use Rattle.plan_pack.specs.Lists.{IsPlanOf, first_message, list_in, search_message, search_messages}
+use Rattle.plan_pack.specs.Lists.{IsPlanOf, first_message, list_in, plan_message, plan_messages}
 use Rattle.plan_pack.specs.Messages.{unusable}
 use Rattle.plan_pack.specs.Packing.{Made, MakesFile, MakesPack, NamesPack, Own, PacksFiles, StaysEmpty, answer_of}
 use Rattle.plan_pack.specs.PlanFiles.{HoldsPrefix, HoldsPlans}
@@ -52,10 +52,10 @@ pack-made written reading profile before output known left r makes =
 -- ---- one file of patterns, and those behind it
 
 packs-next : {O : Type 0} (written : O → Option (List ℕ)) (reading : Reading) (profile : Profile) (before : List Plan) (file : List ℕ) (names : List (List ℕ)) (output : List ℕ) (s left : Sources) (plan : Plan) (r : Made O)
-    → search_message reading file (taken_by (ask_of file) s) ≡ None → IsPlanOf profile (list_in reading (taken_by (ask_of file) s)) plan
+    → plan_message reading file (taken_by (ask_of file) s) ≡ None → IsPlanOf profile (list_in reading (taken_by (ask_of file) s)) plan
     → MakesPack written reading profile (before ++ plan ∷ []) names output (after (ask_of file) s) left r → MakesPack written reading profile before (file ∷ names) output s left r
 packs-next written reading profile before file names output s left plan (Ok made) none right makes = (
-  ap (λ m. first_message m (search_messages reading names (after (ask_of file) s))) none ∙ makes.0,
+  ap (λ m. first_message m (plan_messages reading names (after (ask_of file) s))) none ∙ makes.0,
   ap (can_create output) (sym (same-creatable (ask_of file) s)) ∙ makes.1,
   record {
     plans = plan ∷ makes.2.plans;
@@ -64,8 +64,8 @@ packs-next written reading profile before file names output s left plan (Ok made
   },
 )
 packs-next written reading profile before file names output s left plan (Err (stop, Some made)) none right makes =
-    let first : first_message (search_message reading file (taken_by (ask_of file) s)) (search_messages reading names (after (ask_of file) s)) ≡ search_messages reading names (after (ask_of file) s) =
-    ap (λ m. first_message m (search_messages reading names (after (ask_of file) s))) none in (
+    let first : first_message (plan_message reading file (taken_by (ask_of file) s)) (plan_messages reading names (after (ask_of file) s)) ≡ plan_messages reading names (after (ask_of file) s) =
+    ap (λ m. first_message m (plan_messages reading names (after (ask_of file) s))) none in (
       subst (λ m. Explains stop (first_message m (Some (unusable output)))) (sym first) makes.0,
       (
         first ∙ makes.1.0,
@@ -78,14 +78,14 @@ packs-next written reading profile before file names output s left plan (Err (st
       ),
     )
 packs-next written reading profile before file names output s left plan (Err (stop, None)) none right (why, inl kept) =
-    let first : first_message (search_message reading file (taken_by (ask_of file) s)) (search_messages reading names (after (ask_of file) s)) ≡ search_messages reading names (after (ask_of file) s) =
-    ap (λ m. first_message m (search_messages reading names (after (ask_of file) s))) none in (
+    let first : first_message (plan_message reading file (taken_by (ask_of file) s)) (plan_messages reading names (after (ask_of file) s)) ≡ plan_messages reading names (after (ask_of file) s) =
+    ap (λ m. first_message m (plan_messages reading names (after (ask_of file) s))) none in (
       subst (λ m. Explains stop (first_message m (Some (unusable output)))) (sym first) why,
       inl (inr kept.0, subst (λ m. Explains stop m) (sym first) kept.1),
     )
 packs-next written reading profile before file names output s left plan (Err (stop, None)) none right (why, inr cannot) =
-    let first : first_message (search_message reading file (taken_by (ask_of file) s)) (search_messages reading names (after (ask_of file) s)) ≡ search_messages reading names (after (ask_of file) s) =
-    ap (λ m. first_message m (search_messages reading names (after (ask_of file) s))) none in (
+    let first : first_message (plan_message reading file (taken_by (ask_of file) s)) (plan_messages reading names (after (ask_of file) s)) ≡ plan_messages reading names (after (ask_of file) s) =
+    ap (λ m. first_message m (plan_messages reading names (after (ask_of file) s))) none in (
       subst (λ m. Explains stop (first_message m (Some (unusable output)))) (sym first) why,
       inr (ap (can_create output) (sym (same-creatable (ask_of file) s)) ∙ cannot.0, cannot.1),
     )
@@ -101,7 +101,7 @@ pack-next written reading profile before file names output known mid left plan r
     let rest = g (subst AreShort (sym taken.0) (short-after (ask_of file) s short)) in
     let here = subst (λ x. Asks (answer_of r) (asks_for_plans reading names (Created output) x) x l × MakesPack written reading profile (before ++ plan ∷ []) names output x l r) taken.0 rest in
     let more : List Ask = asks_for_plans reading names (Created output) (after (ask_of file) s) in
-    let message : Option (List ℕ) = search_message reading file (taken_by (ask_of file) s) in (
+    let message : Option (List ℕ) = plan_message reading file (taken_by (ask_of file) s) in (
       same-asks (answer_of r) (ask_of file) more message s l taken.1.0 (asks-more (answer_of r) (ask_of file) more s l here.0),
       packs-next written reading profile before file names output s l plan r taken.1.0 taken.1.1 here.1,
     ))
@@ -113,8 +113,8 @@ pub pack-stopped : {O : Type 0} (written : O → Option (List ℕ)) (reading : R
 pack-stopped {O} written reading profile before file names output known mid stop reads =
     IfKnown-weaker known mid _ (λ s left. AreShort s → Asks {T = O} (Err stop) (asks_for_plans reading (file ∷ names) (Created output) s) s left × MakesPack {O = O} written reading profile before (file ∷ names) output s left (Err (stop, None))) reads (λ s left h short.
     let taken = h short in
-    let message : Option (List ℕ) = search_message reading file (taken_by (ask_of file) s) in
-    let others : Option (List ℕ) = search_messages reading names (after (ask_of file) s) in
+    let message : Option (List ℕ) = plan_message reading file (taken_by (ask_of file) s) in
+    let others : Option (List ℕ) = plan_messages reading names (after (ask_of file) s) in
     let first : Explains stop (first_message message others) = first-explains stop message others taken.1 in (
       asks-stopped O file (asks_for_plans reading names (Created output) (after (ask_of file) s)) message stop s left taken.1 taken.0,
       (first-explains stop (first_message message others) (Some (unusable output)) first, inl (inl taken.0, first)),
@@ -166,19 +166,19 @@ pack-own {O} written reading profile names output known stop own refused why =
 names-none-refused : (reading : Reading) (names : List (List ℕ)) (s : Sources) (stop : Stop) → ((source : Option Content) → NamesStop reading source stop) → NamesPack reading names s stop
 names-none-refused reading [] s stop any = tt
 names-none-refused reading (name ∷ names) s stop any =
-    elim (search_message reading name (taken_by (ask_of name) s)) as (λ m. MatchOption m (NamesPack reading names (after (ask_of name) s) stop) (λ message. NamesStop reading (taken_by (ask_of name) s) stop)) [
+    elim (plan_message reading name (taken_by (ask_of name) s)) as (λ m. MatchOption m (NamesPack reading names (after (ask_of name) s) stop) (λ message. NamesStop reading (taken_by (ask_of name) s) stop)) [
       | None ↦ names-none-refused reading names (after (ask_of name) s) stop any
       | Some message ↦ any (taken_by (ask_of name) s)
     ]
 
 -- one of a later file, where the first gives a plan
-names-later : (reading : Reading) (file : List ℕ) (names : List (List ℕ)) (s : Sources) (stop : Stop) → search_message reading file (taken_by (ask_of file) s) ≡ None
+names-later : (reading : Reading) (file : List ℕ) (names : List (List ℕ)) (s : Sources) (stop : Stop) → plan_message reading file (taken_by (ask_of file) s) ≡ None
     → NamesPack reading names (after (ask_of file) s) stop → NamesPack reading (file ∷ names) s stop
 names-later reading file names s stop none later =
     subst (λ (m : Option (List ℕ)). MatchOption m (NamesPack reading names (after (ask_of file) s) stop) (λ message. NamesStop reading (taken_by (ask_of file) s) stop)) (sym none) later
 
 -- one of the first file, where that gives none
-names-here : (reading : Reading) (file : List ℕ) (names : List (List ℕ)) (s : Sources) (stop : Stop) → Explains stop (search_message reading file (taken_by (ask_of file) s))
+names-here : (reading : Reading) (file : List ℕ) (names : List (List ℕ)) (s : Sources) (stop : Stop) → Explains stop (plan_message reading file (taken_by (ask_of file) s))
     → NamesStop reading (taken_by (ask_of file) s) stop → NamesPack reading (file ∷ names) s stop
 names-here reading file names s (Refused refusal) e here =
     subst (λ (m : Option (List ℕ)). MatchOption m (NamesPack reading names (after (ask_of file) s) (Refused refusal)) (λ message. NamesStop reading (taken_by (ask_of file) s) (Refused refusal))) (sym e) here

@@ -2,7 +2,7 @@
 use Rattle.std.specs.Prelude.{◌≡◌, ℕ, Bool, true, false, List, [], ◌∷◌, codes, if◌then◌else◌, is_some, Result, Ok, Err}
 use Rattle.std.specs.Str.{bytes_eq}
 use Rattle.byte_io.specs.Sources.{Ask, Created, Sources, after, after_all, ask_of, taken_by, AsksPrefix}
-use Rattle.plan_pack.specs.Lists.{search_message}
+use Rattle.plan_pack.specs.Lists.{plan_message}
 use Rattle.plan_pack.specs.Migrated.{IsNoPlanFile, IsSourceOf}
 use Rattle.plan_pack.specs.declared.notation.Reading.{Reading}
 use Rattle.plan_pack.specs.declared.stop.Refusal.{Refusal}
@@ -22,7 +22,7 @@ reads_file (operand ∷ operands) name = if is_file operand name then true else 
 abbrev pub asks_for_plans : Reading → List (List ℕ) → Ask → Sources → List Ask
 asks_for_plans reading [] last s = last ∷ []
 asks_for_plans reading (name ∷ names) last s =
-    ask_of name ∷ (if is_some (search_message reading name (taken_by (ask_of name) s)) then [] else asks_for_plans reading names last (after (ask_of name) s))
+    ask_of name ∷ (if is_some (plan_message reading name (taken_by (ask_of name) s)) then [] else asks_for_plans reading names last (after (ask_of name) s))
 
 -- to pack, nothing where the plan file is one of them, and else it comes last
 abbrev pub pack_asks : Reading → List (List ℕ) → List ℕ → Sources → List Ask

@@ -50,12 +50,12 @@ first_message None later = later
 first_message (Some message) later = Some message
 
 -- the message where a list has no literal
-abbrev pub plan_message : Literals → Option (List ℕ)
-plan_message list = if nat_eq (length list.texts) 0 then Some (refused 5) else None
+abbrev pub empty_message : Literals → Option (List ℕ)
+empty_message list = if nat_eq (length list.texts) 0 then Some (refused 5) else None
 
 -- the message where a content gives no plan: it has no list, or there is no literal in it
-abbrev pub search_message : Reading → List ℕ → Option Content → Option (List ℕ)
-search_message reading name source = first_message (list_message reading name source) (plan_message (list_in reading source))
+abbrev pub plan_message : Reading → List ℕ → Option Content → Option (List ℕ)
+plan_message reading name source = first_message (list_message reading name source) (empty_message (list_in reading source))
 
 -- the plan is the list's of the profile
 pub record IsPlanOf (profile : Profile) (list : Literals) (plan : Plan) : Type 0 where
@@ -63,10 +63,10 @@ pub record IsPlanOf (profile : Profile) (list : Literals) (plan : Plan) : Type 0
   pub planned : IsPlanned list profile plan.certificate
 
 -- of files of patterns that are read in order: the message of the first that gives no plan, if one gives none
-abbrev pub search_messages : Reading → List (List ℕ) → Sources → Option (List ℕ)
-search_messages reading [] s = None
-search_messages reading (name ∷ names) s =
-    first_message (search_message reading name (taken_by (ask_of name) s)) (search_messages reading names (after (ask_of name) s))
+abbrev pub plan_messages : Reading → List (List ℕ) → Sources → Option (List ℕ)
+plan_messages reading [] s = None
+plan_messages reading (name ∷ names) s =
+    first_message (plan_message reading name (taken_by (ask_of name) s)) (plan_messages reading names (after (ask_of name) s))
 
 -- the plans are those of the files' lists, in order
 abbrev pub ArePlansOf : Reading → Profile → List (List ℕ) → Sources → List Plan → Type 0

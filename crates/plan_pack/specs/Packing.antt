@@ -8,7 +8,7 @@ use Rattle.plan_pack.specs.Asking.{reads_file}
 use Rattle.lit_base.specs.declared.profile.Profile.{Profile}
 use Rattle.plan_file.specs.Spelling.{ArePlans, spelling}
 use Rattle.plan_file.specs.declared.version.Version.TheVariants.{Two}
-use Rattle.plan_pack.specs.Lists.{ArePlansOf, first_message, search_message, search_messages}
+use Rattle.plan_pack.specs.Lists.{ArePlansOf, first_message, plan_message, plan_messages}
 use Rattle.plan_pack.specs.Messages.{unusable}
 use Rattle.plan_pack.specs.PlanFiles.{HoldsPrefix, HoldsPlans}
 use Rattle.plan_pack.specs.Stops.{Explains, is_refusal}
@@ -72,16 +72,16 @@ IsBefore (name ∷ names) s left = (left ≡ after (ask_of name) s) ⊎ IsBefore
 -- there, or it cannot be made
 abbrev pub LeavesPack : {O : Type 0} → (O → Option (List ℕ)) → Reading → Profile → List Plan → List (List ℕ) → List ℕ → Sources → Sources → Stop → Option O → Type 0
 LeavesPack written reading profile before names output s left stop (Some made) =
-    (search_messages reading names s ≡ None) × (can_create output s.creatable ≡ true) × HoldsPrefixOf reading profile before names s (written made)
+    (plan_messages reading names s ≡ None) × (can_create output s.creatable ≡ true) × HoldsPrefixOf reading profile before names s (written made)
 LeavesPack written reading profile before names output s left stop None =
-    (IsBefore names s left × Explains stop (search_messages reading names s)) ⊎ ((can_create output s.creatable ≡ false) × (is_refusal stop ≡ true))
+    (IsBefore names s left × Explains stop (plan_messages reading names s)) ⊎ ((can_create output s.creatable ≡ false) × (is_refusal stop ≡ true))
 
 -- a plan file was made of these plans and of those of the files, or the first message
 abbrev pub MakesPack : {O : Type 0} → (O → Option (List ℕ)) → Reading → Profile → List Plan → List (List ℕ) → List ℕ → Sources → Sources → Made O → Type 0
 MakesPack written reading profile before names output s left (Ok made) =
-    (search_messages reading names s ≡ None) × (can_create output s.creatable ≡ true) × HoldsPlansOf reading profile before names s (written made)
+    (plan_messages reading names s ≡ None) × (can_create output s.creatable ≡ true) × HoldsPlansOf reading profile before names s (written made)
 MakesPack written reading profile before names output s left (Err stopped) =
-    Explains stopped.0 (first_message (search_messages reading names s) (Some (unusable output)))
+    Explains stopped.0 (first_message (plan_messages reading names s) (Some (unusable output)))
     × LeavesPack written reading profile before names output s left stopped.0 stopped.1
 
 -- where patterns were refused, the refusal is that of the first line that is refused, in the first file that gives no
@@ -89,7 +89,7 @@ MakesPack written reading profile before names output s left (Err stopped) =
 abbrev pub NamesPack : Reading → List (List ℕ) → Sources → Stop → Type 0
 NamesPack reading [] s stop = ⊤
 NamesPack reading (name ∷ names) s stop =
-    MatchOption (search_message reading name (taken_by (ask_of name) s)) (NamesPack reading names (after (ask_of name) s) stop)
+    MatchOption (plan_message reading name (taken_by (ask_of name) s)) (NamesPack reading names (after (ask_of name) s) stop)
     (λ message. NamesStop reading (taken_by (ask_of name) s) stop)
 
 -- a plan file was made of the plans of the files alone, unless it is one of these files: then nothing is asked for, and

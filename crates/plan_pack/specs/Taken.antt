@@ -4,7 +4,7 @@ use Rattle.std.specs.Global.{Vec}
 use Rattle.byte_io.specs.Sources.{Content, Sources, ask_of, taken_by}
 use Rattle.lit_plan.specs.Plans.{Plan}
 use Rattle.lit_base.specs.Literals.{Literals}
-use Rattle.plan_pack.specs.Lists.{ArePlaces, IsPlanOf, NamesRefused, input_message, list_in, list_message, patterns_in, plan_message, search_message, text_in}
+use Rattle.plan_pack.specs.Lists.{ArePlaces, IsPlanOf, NamesRefused, empty_message, input_message, list_in, list_message, patterns_in, plan_message, text_in}
 use Rattle.lit_base.specs.declared.lit_list.Normal.{Normal}
 use Rattle.lit_base.specs.declared.profile.Profile.{Profile}
 use Rattle.plan_pack.specs.Migrated.{IsNoPlanFile, IsSourceOf}
@@ -41,13 +41,13 @@ NamesStop reading source OutOfMemory = ⊤
 
 -- the patterns were planned: their plan, or why there is none
 abbrev pub TakesPlan : Reading → Profile → List ℕ → Option Content → Result Plan Stop → Type 0
-TakesPlan reading profile name source (Ok plan) = (search_message reading name source ≡ None) × IsPlanOf profile (list_in reading source) plan
-TakesPlan reading profile name source (Err stop) = Explains stop (search_message reading name source)
+TakesPlan reading profile name source (Ok plan) = (plan_message reading name source ≡ None) × IsPlanOf profile (list_in reading source) plan
+TakesPlan reading profile name source (Err stop) = Explains stop (plan_message reading name source)
 
 -- a list was planned
 abbrev pub PlansList : Profile → Literals → Result Plan Stop → Type 0
-PlansList profile list (Ok plan) = (plan_message list ≡ None) × IsPlanOf profile list plan
-PlansList profile list (Err stop) = Explains stop (plan_message list)
+PlansList profile list (Ok plan) = (empty_message list ≡ None) × IsPlanOf profile list plan
+PlansList profile list (Err stop) = Explains stop (empty_message list)
 
 -- a plan file was read: its plans, or why there are none
 abbrev pub TakesPlans : List ℕ → Option Content → Result (Vec Plan) Stop → Type 0

@@ -21,7 +21,7 @@ use Rattle.plan_pack.specs.Asking.{Asks}
 use Rattle.lit_base.specs.declared.profile.Profile.{Profile}
 use Rattle.lit_base.specs.declared.profile.Profile.TheVariants.{Eight, Sixteen}
 use Rattle.lit_base.specs.declared.lit_list.Normal.{Normal}
-use Rattle.plan_pack.specs.Lists.{ArePlaces, input_message, list_in, list_message, patterns_in, search_message, text_in}
+use Rattle.plan_pack.specs.Lists.{ArePlaces, input_message, list_in, list_message, patterns_in, plan_message, text_in}
 use Rattle.plan_pack.specs.Messages.{message_on, unusable}
 use Rattle.plan_pack.specs.Migrated.{IsNoPlanFile}
 use Rattle.plan_pack.specs.Stops.{Explains}
@@ -166,7 +166,7 @@ scan-had reading count names file input known mid left plan r old new reads scan
     IfKnown-then known mid left _ _ (λ s l. AreShort s → Asks r (scan_asks reading file input s) s l × Reports (AnswersScan reading count names file input s) r old new) reads scans (λ s m l h g short.
     let taken = h short in
     let scanned = g (subst AreShort (sym taken.0) (short-after (ask_of file) s short)) in
-    let message : Option (List ℕ) = search_message reading file (taken_by (ask_of file) s) in
+    let message : Option (List ℕ) = plan_message reading file (taken_by (ask_of file) s) in
     let list : Literals = list_in reading (taken_by (ask_of file) s) in
     let made : l ≡ after_all (ask_of file ∷ ask_of input ∷ []) s = scanned.0 ∙ ap (after (ask_of input)) taken.0 in
     let reports = subst (λ x. Reports (AnswersInput plan.literals count names input (taken_by (ask_of input) x)) r old new) taken.0 scanned.1 in
@@ -182,7 +182,7 @@ pub scan-stopped : (reading : Reading) (count names : Bool) (file input : List �
 scan-stopped reading count names file input known mid stop out reads =
     IfKnown-weaker known mid _ (λ s left. AreShort s → Asks {T = Status} (Err stop) (scan_asks reading file input s) s left × Reports (AnswersScan reading count names file input s) (Err stop) out out) reads (λ s left h short.
     let taken = h short in
-    let message : Option (List ℕ) = search_message reading file (taken_by (ask_of file) s) in (
+    let message : Option (List ℕ) = plan_message reading file (taken_by (ask_of file) s) in (
       asks-stopped Status file (ask_of input ∷ []) message stop s left taken.1 taken.0,
       reports-reason message (AnswersInput (list_in reading (taken_by (ask_of file) s)) count names input (input_source file input s)) stop out taken.1,
     ))

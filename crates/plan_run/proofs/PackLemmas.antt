@@ -7,7 +7,7 @@ use Rattle.byte_io.specs.Sources.{AreShort, Sources, can_create}
 use Rattle.byte_io.proofs.KnownLemmas.{IfKnown-weaker}
 use Rattle.plan_pack.specs.Asking.{Asks, pack_asks}
 use Rattle.lit_base.specs.declared.profile.Profile.{Profile}
-use Rattle.plan_pack.specs.Lists.{ArePlansOf, first_message, search_messages}
+use Rattle.plan_pack.specs.Lists.{ArePlansOf, first_message, plan_messages}
 use Rattle.plan_pack.specs.Messages.{message_on, unusable}
 use Rattle.plan_pack.specs.Packing.{LeavesPack, Other, Own, PacksFiles}
 use Rattle.plan_pack.specs.Stops.{Explains, is_refusal}
@@ -29,7 +29,7 @@ reports-packed : {O : Type 0} (written : O → Option (List ℕ)) (has_failed : 
 reports-packed written has_failed reading profile names output s left made out whole (Own stop own refused why same is) = absurd (cc)
 reports-packed written has_failed reading profile names output s left made out whole (Other other makes) =
     let answer = IsPackAnswer written has_failed (ArePlansOf reading profile names s) output (can_create output s.creatable) in
-    let none : pack_message reading names output s ≡ None = ap (λ b. cond b (Some (unusable output)) (search_messages reading names s)) other ∙ makes.0 in
+    let none : pack_message reading names output s ≡ None = ap (λ b. cond b (Some (unusable output)) (plan_messages reading names s)) other ∙ makes.0 in
     reports-unless (pack_message reading names output s) answer (Ok Done) out out none
     (reports-text answer [] Done (Ok Done) out out (Packed makes.2.plans made makes.2.right makes.1 makes.2.holds whole refl) (refl, Appends-nil out))
 
@@ -49,7 +49,7 @@ IsReportedOf written has_failed reading profile names output s message =
 
 -- a file that is not made, or not whole, has its message where nothing comes before
 reports-cut : {O : Type 0} (written : O → Option (List ℕ)) (has_failed : O → Bool) (reading : Reading) (profile : Profile) (names : List (List ℕ)) (output : List ℕ) (s left : Sources) (message : Option (List ℕ)) (stop : Stop) (begun : Option O) (out : Option (List ℕ))
-    → message ≡ search_messages reading names s → Explains stop (first_message message (Some (unusable output))) → LeavesPack written reading profile [] names output s left stop begun
+    → message ≡ plan_messages reading names s → Explains stop (first_message message (Some (unusable output))) → LeavesPack written reading profile [] names output s left stop begun
     → IfSome begun (λ made. has_failed made ≡ is_refusal stop)
     → Reports (IsReportedOf written has_failed reading profile names output s message) (Err stop) out out
 reports-cut written has_failed reading profile names output s left message OutOfMemory begun out same why leaves broken = reports-silent (IsReportedOf written has_failed reading profile names output s message) out
@@ -69,14 +69,14 @@ reports-unpacked : {O : Type 0} (written : O → Option (List ℕ)) (has_failed 
     → Reports (AnswersPack written has_failed reading profile names output s) (Err stopped.0) out out
 reports-unpacked written has_failed reading profile names output s left stopped out broken (Own stop own refused why same is) =
     let stop_is : stop ≡ stopped.0 = (cc) in
-    let message : pack_message reading names output s ≡ Some (unusable output) = ap (λ b. cond b (Some (unusable output)) (search_messages reading names s)) own in
+    let message : pack_message reading names output s ≡ Some (unusable output) = ap (λ b. cond b (Some (unusable output)) (plan_messages reading names s)) own in
     subst (λ x. Reports (AnswersPack written has_failed reading profile names output s) (Err x) out out) stop_is
     (reports-reason (pack_message reading names output s) (IsPackAnswer written has_failed (ArePlansOf reading profile names s) output (can_create output s.creatable)) stop out
     (subst (λ m. Explains stop m) (sym message) why))
 reports-unpacked written has_failed reading profile names output s left stopped out broken (Other other makes) =
-    let message : pack_message reading names output s ≡ search_messages reading names s = ap (λ b. cond b (Some (unusable output)) (search_messages reading names s)) other in
+    let message : pack_message reading names output s ≡ plan_messages reading names s = ap (λ b. cond b (Some (unusable output)) (plan_messages reading names s)) other in
     subst (λ m. Reports (IsReportedOf written has_failed reading profile names output s m) (Err stopped.0) out out) (sym message)
-    (reports-cut written has_failed reading profile names output s left (search_messages reading names s) stopped.0 stopped.1 out refl makes.0 makes.1 broken)
+    (reports-cut written has_failed reading profile names output s left (plan_messages reading names s) stopped.0 stopped.1 out refl makes.0 makes.1 broken)
 
 pub pack-unwritten : {O : Type 0} (written : O → Option (List ℕ)) (has_failed : O → Bool) (reading : Reading) (profile : Profile) (names : List (List ℕ)) (output : List ℕ) (known left : Option Sources) (stopped : Stop × Option O) (stop : Stop)
     → stop ≡ stopped.0 → IfSome stopped.1 (λ made. has_failed made ≡ is_refusal stopped.0)

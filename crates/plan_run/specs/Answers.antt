@@ -18,7 +18,7 @@ use Rattle.lit_cert.specs.declared.reason.Reason.{Reason}
 use Rattle.plan_view.specs.Drawings.{plan_svg}
 use Rattle.plan_view.specs.Texts.{plan_text}
 use Rattle.run_planner.specs.FirstCut.{IsFirstCut}
-use Rattle.plan_pack.specs.Lists.{ArePlaces, ArePlansOf, NamesRefused, input_message, list_in, list_message, patterns_in, search_message, search_messages, text_in}
+use Rattle.plan_pack.specs.Lists.{ArePlaces, ArePlansOf, NamesRefused, input_message, list_in, list_message, patterns_in, plan_message, plan_messages, text_in}
 use Rattle.plan_pack.specs.Messages.{message_on, no_plan, refused, unusable}
 use Rattle.plan_pack.specs.Migrated.{AreMigrated, IsNoPlanFile, IsSourceOf, migrated_lines}
 use Rattle.plan_pack.specs.PlanFiles.{HoldsPrefix, HoldsPlans}
@@ -123,7 +123,7 @@ input_source file input s = taken_by (ask_of input) (after (ask_of file) s)
 -- to scan
 abbrev pub AnswersScan : Reading → Bool → Bool → List ℕ → List ℕ → Sources → Answer → Type 0
 AnswersScan reading count names file input s =
-    AnswersUnless (search_message reading file (taken_by (ask_of file) s))
+    AnswersUnless (plan_message reading file (taken_by (ask_of file) s))
     (AnswersInput (list_in reading (taken_by (ask_of file) s)) count names input (input_source file input s))
 
 -- on plans and the name of their file, which can be made or not: nothing is printed where it was made and holds them;
@@ -137,7 +137,7 @@ pub data IsPackAnswer {O : Type 0} (written : O → Option (List ℕ)) (has_fail
 
 -- the message where no plan file is made: it is one of the files of patterns; or one of these gives no plan
 abbrev pub pack_message : Reading → List (List ℕ) → List ℕ → Sources → Option (List ℕ)
-pack_message reading names output s = if reads_file names output then Some (unusable output) else search_messages reading names s
+pack_message reading names output s = if reads_file names output then Some (unusable output) else plan_messages reading names s
 
 -- to pack
 abbrev pub AnswersPack : {O : Type 0} → (O → Option (List ℕ)) → (O → Bool) → Reading → Profile → List (List ℕ) → List ℕ → Sources → Answer → Type 0
@@ -239,7 +239,7 @@ check_asks reading file certificate s =
 -- likewise the file of patterns, and the input once there is a plan
 abbrev pub scan_asks : Reading → List ℕ → List ℕ → Sources → List Ask
 scan_asks reading file input s =
-    ask_of file ∷ (if is_some (search_message reading file (taken_by (ask_of file) s)) then [] else ask_of input ∷ [])
+    ask_of file ∷ (if is_some (plan_message reading file (taken_by (ask_of file) s)) then [] else ask_of input ∷ [])
 
 -- all that a request may ask for
 abbrev pub asks_of : Request → Sources → List Ask
