@@ -48,7 +48,7 @@ pub fn listen<R: Threads + Wait + Sync, O: ByteOut, E: ByteOut>(
 
 /// How the connections of a run ended.
 #[derive(Drop)]
-struct Served {
+struct Outcome {
     /// How each ended, in order of acceptance; `None` where no thread could be started.
     endings: ArrayVec<Option<Ended>, MAX_CONNECTIONS>,
     /// Whether accepting failed before all had come.
@@ -56,7 +56,7 @@ struct Served {
 }
 
 /// The threads that serve connections, in order of acceptance; `None` where none could be started.
-type Serving = ArrayVec<Option<JoinHandle<Ended>>, MAX_CONNECTIONS>;
+type ServingThreads = ArrayVec<Option<JoinHandle<Ended>>, MAX_CONNECTIONS>;
 
 /// Serves the connections to their ends.
 fn serve_all<R: Threads + Wait + Sync>(
@@ -66,7 +66,7 @@ fn serve_all<R: Threads + Wait + Sync>(
     loaded: &[Ticket],
     listener: TcpListener,
     connections: usize,
-) -> Served
+) -> Outcome
     requires some { AreConnections connections }
     requires here { All (IsOf store.now) loaded.now }
     ensures few { length result.endings.items ≤ connections }
@@ -87,7 +87,7 @@ fn serve_all<R: Threads + Wait + Sync>(
                 listener,
                 connections,
             );
-            Served {
+            Outcome {
                 endings: join_all(rt, threads),
                 faulty,
             }
@@ -104,7 +104,7 @@ fn accept_all<'s, E, R: Threads + Wait + Sync>(
     loaded: &'s [Ticket],
     listener: TcpListener,
     connections: usize,
-) -> (Serving, bool)
+) -> (ServingThreads, bool)
     requires some { AreConnections connections }
     requires here { All (IsOf store.now) loaded.now }
     ensures few { length result.0.items ≤ connections }
@@ -126,7 +126,10 @@ fn accept_all<'s, E, R: Threads + Wait + Sync>(
 }
 
 /// Waits for the threads, and returns how each connection ended.
-fn join_all<R: Threads + Wait>(rt: &R, threads: Serving) -> ArrayVec<Option<Ended>, MAX_CONNECTIONS>
+fn join_all<R: Threads + Wait>(
+    rt: &R,
+    threads: ServingThreads,
+) -> ArrayVec<Option<Ended>, MAX_CONNECTIONS>
     ensures { length result.items ≡ length threads.items }
 {
     let mut endings = ArrayVec::new();
