@@ -3,6 +3,7 @@
 #![tactic(auto)]
 
 mod command;
+mod help;
 mod words;
 
 use byte_io::{SystemFiles, ToWrite};
