@@ -5,12 +5,12 @@ use Rattle.lit_base.specs.declared.fault.Fault.TheVariants.{OutOfMemory, TooMany
 use Rattle.fiolargu.specs.declared.statuses.TheConstants as status
 
 -- the status of a refusal, and the position of the pattern at fault, or 0 where no one pattern is
-abbrev pub is_at : Fault → ℤ × ℕ
-is_at OutOfMemory = (status.OUT_OF_MEMORY, 0)
-is_at TooManyPatterns = (status.TOO_MANY_PATTERNS, 0)
-is_at (LiteralTooLong place) = (status.LITERAL_TOO_LONG, place)
-is_at TooManyLiterals = (status.TOO_MANY_LITERALS, 0)
-is_at ListTooLarge = (status.LIST_TOO_LARGE, 0)
+abbrev pub status_at : Fault → ℤ × ℕ
+status_at OutOfMemory = (status.OUT_OF_MEMORY, 0)
+status_at TooManyPatterns = (status.TOO_MANY_PATTERNS, 0)
+status_at (LiteralTooLong place) = (status.LITERAL_TOO_LONG, place)
+status_at TooManyLiterals = (status.TOO_MANY_LITERALS, 0)
+status_at ListTooLarge = (status.LIST_TOO_LARGE, 0)
 
 -- a status of a list that is refused, or of want of memory
 abbrev pub IsListStatus : ℤ → Type 0

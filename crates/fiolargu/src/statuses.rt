@@ -1,6 +1,6 @@
 //! What a call answers.
 ghost use Rattle.std.specs.Prelude.{◌≡◌};
-ghost use Rattle.fiolargu.specs.Answers.{IsListStatus, StatusesLaw, is_at};
+ghost use Rattle.fiolargu.specs.Answers.{IsListStatus, StatusesLaw, status_at};
 ghost use Rattle.fiolargu.specs.declared.statuses.TheConstants.{LIST_TOO_LARGE, LITERAL_TOO_LONG, NO_LITERALS, OK, OUT_OF_MEMORY, OUT_OF_RANGE, SMALL_BUFFER, TOO_MANY_PATTERNS};
 ghost use Rattle.lit_base.specs.declared.fault.Fault.TheVariants.{ListTooLarge, LiteralTooLong, OutOfMemory, TooManyLiterals, TooManyPatterns};
 
@@ -52,7 +52,7 @@ pub fn statuses_law()
 
 /// The status of a list that is refused, and at which pattern, or 0 where no one pattern is at fault.
 pub(crate) fn status_of_list(fault: Fault) -> (i32, usize)
-    ensures status { result ≡ is_at fault }
+    ensures status { result ≡ status_at fault }
     ensures refused { result.0 ≡ OK → ⊥ }
     ensures range { result.0 ≡ OUT_OF_RANGE → ⊥ }
     ensures small { result.0 ≡ SMALL_BUFFER → ⊥ }
