@@ -28,7 +28,7 @@ impl Fault {
 impl From<AllocError> for Fault {
     ghost from_gives = { λ _ e. e ≡ OutOfMemory };
 
-    fn from(_e: AllocError) -> Fault {
+    fn from(_error: AllocError) -> Fault {
         Fault::OutOfMemory
     }
 }

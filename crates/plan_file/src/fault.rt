@@ -81,7 +81,7 @@ impl From<AllocError> for Fault {
 
     ghost from_gives = { λ _ e. e ≡ OutOfMemory };
 
-    fn from(_e: AllocError) -> Fault {
+    fn from(_error: AllocError) -> Fault {
         Fault::OutOfMemory
     }
 }
@@ -92,7 +92,7 @@ impl<T: Drop> From<AllocFailed<T>> for Fault {
 
     ghost from_gives = { λ _ e. e ≡ OutOfMemory };
 
-    fn from(_e: AllocFailed<T>) -> Fault {
+    fn from(_error: AllocFailed<T>) -> Fault {
         Fault::OutOfMemory
     }
 }
@@ -117,7 +117,7 @@ impl From<AllocError> for Stop {
 
     ghost from_gives = { λ _ e. e ≡ OutOfMemory };
 
-    fn from(_e: AllocError) -> Stop {
+    fn from(_error: AllocError) -> Stop {
         Stop::OutOfMemory
     }
 }
@@ -128,7 +128,7 @@ impl<T: Drop> From<AllocFailed<T>> for Stop {
 
     ghost from_gives = { λ _ e. e ≡ OutOfMemory };
 
-    fn from(_e: AllocFailed<T>) -> Stop {
+    fn from(_error: AllocFailed<T>) -> Stop {
         Stop::OutOfMemory
     }
 }
