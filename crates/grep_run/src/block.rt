@@ -10,12 +10,15 @@ use byte_io::{ByteOut, push_number};
 use line_pick::{Fault, Next, Sink};
 use std::alloc::{AllocError, Global};
 
-/// The block of one input after another, as its selected lines come. It holds the text that is not written yet.
+/// The block of one input after another, as its selected lines come.
 #[derive(Drop)]
 pub struct Block<'a> {
     pub options: &'a GrepOptions,
+    /// What prefixes call the input.
     pub name: &'a str,
+    /// How many lines were selected so far, at most 2^64 - 1.
     pub count: u64,
+    /// The text that is not written yet.
     pub text: Vec<u8>,
 }
 
@@ -45,7 +48,8 @@ impl<'a> Block<'a> {
         self.text.clear();
     }
 
-    /// Writes the text that it holds, and then holds nothing. After an error some of it may be written, from its start.
+    /// Writes the text that it holds, and then holds nothing. The only error is `WriteFault`; a prefix of the text may
+    /// be written then.
     pub fn write<W: ByteOut>(&mut self, out: &mut W) -> Result<(), Stop>
         ensures ok { OnOk result (Writes (writer W.written W.has_failed out.old) (writer W.written W.has_failed out.new) self.old.text.items) }
         ensures empty { OnOk result (self.new.text.items ≡ []) }
@@ -59,8 +63,7 @@ impl<'a> Block<'a> {
         Ok(())
     }
 
-    /// Writes the text that it holds, and the text after the last line. After an error some of both may be written,
-    /// from the start.
+    /// Writes the text that it holds, and the text after the last line. After an error a prefix of both may be written.
     pub fn finish<W: ByteOut>(&mut self, out: &mut W) -> Result<(), Stop>
         ensures ok { OnOk result (Writes (writer W.written W.has_failed out.old) (writer W.written W.has_failed out.new)
             (self.old.text.items ++ ending_of self.old.options.now self.old.name.now self.old.count)) }
@@ -73,7 +76,7 @@ impl<'a> Block<'a> {
         self.write(out)
     }
 
-    /// Takes what stands after the last line.
+    /// Appends what stands after the last line: under -l the name if a line was selected, under -c their number.
     fn end(&mut self) -> Result<(), AllocError>
         ensures text { OnOk result (self.new.text.items
             ≡ self.old.text.items ++ ending_of self.old.options.now self.old.name.now self.old.count) }
@@ -112,7 +115,7 @@ impl<'a> Sink for Block<'a> {
     }
 }
 
-/// Appends a line as it is shown. It is a call of its own, so that a line that is only counted needs none.
+/// Appends a line as it is shown. It is not inlined, so that a line that is only counted stays cheap.
 #[inline(never)]
 fn push_line(
     options: &GrepOptions,
@@ -132,7 +135,7 @@ fn push_line(
     Ok(())
 }
 
-/// Appends the number of lines.
+/// Appends the prefix and the number of lines, as a line.
 fn push_count(
     options: &GrepOptions,
     name: &str,
@@ -154,7 +157,7 @@ fn push_name(name: &str, text: &mut Vec<u8>) -> Result<(), AllocError>
     Ok(())
 }
 
-/// Appends the prefix: the name where there is more than one operand.
+/// Appends the prefix: the name and a colon, if there is more than one operand.
 fn push_prefix(options: &GrepOptions, name: &str, text: &mut Vec<u8>) -> Result<(), AllocError>
     ensures { OnOk result (text.new.items ≡ text.old.items ++ prefix_of options.now name.now) }
 {

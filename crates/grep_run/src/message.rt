@@ -8,8 +8,8 @@ use byte_io::{ByteOut, write_all};
 use lit_base::Fault;
 use std::alloc::{AllocError, Global};
 
-/// Says that a file cannot be opened or read. After an error some of the message may be written,
-/// from its start, and none of it for want of memory.
+/// Says that a file cannot be opened or read. After a failed write a prefix of the message may be written; for want of
+/// memory nothing is.
 pub fn say_unreadable<E: ByteOut>(alloc: Global, name: &str, err: &mut E) -> Result<(), Stop>
     ensures ok { OnOk result (Writes (writer E.written E.has_failed err.old) (writer E.written E.has_failed err.new) (unreadable name.now)) }
     ensures err { OnErr result (WritesPrefix (writer E.written E.has_failed err.old) (writer E.written E.has_failed err.new) (unreadable name.now)) }
@@ -21,8 +21,8 @@ pub fn say_unreadable<E: ByteOut>(alloc: Global, name: &str, err: &mut E) -> Res
     write_whole(text.as_bytes(), err)
 }
 
-/// Says that the patterns are refused, and by which refusal. After an error some of the message may
-/// be written, from its start, and none of it for want of memory.
+/// Says that the patterns are refused, and by which refusal. After a failed write a prefix of the message may be
+/// written; for want of memory nothing is.
 pub fn say_refused<E: ByteOut>(alloc: Global, fault: Fault, err: &mut E) -> Result<(), Stop>
     ensures ok { OnOk result (Writes (writer E.written E.has_failed err.old) (writer E.written E.has_failed err.new) (patterns_refused fault)) }
     ensures err { OnErr result (WritesPrefix (writer E.written E.has_failed err.old) (writer E.written E.has_failed err.new) (patterns_refused fault)) }
@@ -34,12 +34,14 @@ pub fn say_refused<E: ByteOut>(alloc: Global, fault: Fault, err: &mut E) -> Resu
     write_whole(text.as_bytes(), err)
 }
 
+/// The message on a file that cannot be opened or read.
 fn unreadable_text(alloc: Global, name: &str) -> Result<String, AllocError>
     ensures { IfOk result (λ text. string_bytes text ≡ unreadable name.now) }
 {
     format!(in alloc; "litgrep: {name}: cannot be read\n")
 }
 
+/// The message on patterns that are refused, with the number of the refusal.
 fn refused_text(alloc: Global, fault: Fault) -> Result<String, AllocError>
     ensures { IfOk result (λ text. string_bytes text ≡ patterns_refused fault) }
 {
@@ -47,8 +49,8 @@ fn refused_text(alloc: Global, fault: Fault) -> Result<String, AllocError>
     format!(in alloc; "litgrep: patterns refused ({number})\n")
 }
 
-/// Says that memory ran out. It takes none itself. After an error some of the message may be
-/// written, from its start.
+/// Says that memory ran out. It takes none itself. The only error is `WriteFault`; a prefix of the message may be
+/// written then.
 pub fn say_out_of_memory<E: ByteOut>(err: &mut E) -> Result<(), Stop>
     ensures ok { OnOk result (Writes (writer E.written E.has_failed err.old) (writer E.written E.has_failed err.new) out_of_memory) }
     ensures err { OnErr result (WritesPrefix (writer E.written E.has_failed err.old) (writer E.written E.has_failed err.new) out_of_memory) }
@@ -58,7 +60,7 @@ pub fn say_out_of_memory<E: ByteOut>(err: &mut E) -> Result<(), Stop>
     write_whole(b"litgrep: out of memory\n", err)
 }
 
-/// Writes the whole text. After an error some of it may be written, from its start.
+/// Writes the whole text. The only error is `WriteFault`; a prefix of the text may be written then.
 pub fn write_whole<W: ByteOut>(text: &[u8], out: &mut W) -> Result<(), Stop>
     ensures ok { OnOk result (Writes (writer W.written W.has_failed out.old) (writer W.written W.has_failed out.new) text.now) }
     ensures err { OnErr result (WritesPrefix (writer W.written W.has_failed out.old) (writer W.written W.has_failed out.new) text.now) }

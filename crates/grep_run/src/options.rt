@@ -24,6 +24,6 @@ pub struct GrepOptions {
     pub lists: Vec<String>,
     /// The pattern files, of -f.
     pub files: Vec<String>,
-    /// The files to search. `-` is standard input, which is searched too where there is none.
+    /// The files to search; `-` is standard input. Without operands standard input is searched.
     pub operands: Vec<String>,
 }

@@ -85,7 +85,7 @@ pub fn answer<O: Opener, W: ByteOut, E: ByteOut>(
     }
 }
 
-/// Says why there are no patterns.
+/// Says why there are no patterns. The status is `Trouble`.
 fn refuse<E: ByteOut>(alloc: Global, why: NoPatterns<'_>, err: &mut E) -> Result<Status, Stop>
     ensures status { IfOk result (λ status. status ≡ Status.Trouble) }
     ensures reported { Refuses why.entry result (writer E.written E.has_failed err.old) (writer E.written E.has_failed err.new) }
@@ -95,7 +95,7 @@ fn refuse<E: ByteOut>(alloc: Global, why: NoPatterns<'_>, err: &mut E) -> Result
     Ok(Status::Trouble)
 }
 
-/// The message on that, unless it is want of memory.
+/// Writes the message on why there are no patterns. Want of memory is returned, without a message.
 fn say<E: ByteOut>(alloc: Global, why: NoPatterns<'_>, err: &mut E) -> Result<(), Stop>
     ensures reported { Refuses why.entry result (writer E.written E.has_failed err.old) (writer E.written E.has_failed err.new) }
     ensures flag { E.has_failed err.new ≡ (E.has_failed err.old || is_write_fault result) }
@@ -106,7 +106,7 @@ fn say<E: ByteOut>(alloc: Global, why: NoPatterns<'_>, err: &mut E) -> Result<()
     }
 }
 
-/// The message on a refusal of the patterns, unless it is want of memory.
+/// Writes the message on a refusal of the patterns. Want of memory is returned, without a message.
 fn say_fault<E: ByteOut>(alloc: Global, fault: Fault, err: &mut E) -> Result<(), Stop>
     ensures other { OnOk result (fault ≢ Fault.OutOfMemory) }
     ensures ok { OnOk result (Writes (writer E.written E.has_failed err.old) (writer E.written E.has_failed err.new) (patterns_refused fault)) }

@@ -141,8 +141,8 @@ pub fn read_lines<'a, I: ByteIn, W: ByteOut>(
     Ok(End::Fault)
 }
 
-/// Takes the next piece of an input, and writes the lines that it ends. `Some` where it is the last one. If the input
-/// is long, the search tunes itself to it.
+/// Takes the next piece of an input, and writes the lines that it ends. Returns `Some` if no further piece is wanted,
+/// or if there are too many bytes. If the input is long, the search tunes itself to it.
 fn feed<'a, W: ByteOut>(
     request: &Request<'a>,
     is_long: bool,

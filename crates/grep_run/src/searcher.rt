@@ -85,7 +85,7 @@ fn longest_name(options: &GrepOptions) -> usize {
     longest
 }
 
-/// What searches inputs one after another, all by one piece of memory to read and one to write.
+/// Searches inputs one after another. All share one buffer to read into and one to write from.
 #[derive(Drop)]
 struct Searcher<'a> {
     request: Request<'a>,
@@ -101,6 +101,7 @@ struct Searcher<'a> {
 }
 
 impl<'a> Searcher<'a> {
+    /// A searcher before any input. The only error is a refused growth.
     fn new(request: Request<'a>) -> Result<Searcher<'a>, AllocError>
         ensures { IfOk result (λ searcher. searcher.request ≡ request.entry) }
     {
@@ -218,7 +219,7 @@ impl<'a> Searcher<'a> {
         })
     }
 
-    /// Says of an error that an input cannot be opened or read, unless -s drops it.
+    /// Says that an input cannot be opened or read, if `is_error`, unless -s drops the message.
     fn report<E: ByteOut>(&self, name: &str, is_error: bool, err: &mut E) -> Result<(), Stop>
         ensures ok { OnOk result (Writes (writer E.written E.has_failed err.old) (writer E.written E.has_failed err.new)
             (if is_error && not self.now.request.options.now.silent then unreadable name.now else [])) }

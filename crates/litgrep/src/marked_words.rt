@@ -6,12 +6,11 @@ use std::rt::Env;
 /// What marks a word that is not UTF-8. The system ends each word with this byte, so no word holds it.
 const MARK: char = '\0';
 
-/// How many bytes a word has at most: as many as the system lets one have.
+/// The most bytes that the system lets a word have.
 const MOST_WORD_LEN: usize = 128 * 1024;
 
-/// The words after the program's name. A word that is not UTF-8 is marked: before its bytes, or
-/// behind a first `-`, stands a mark, and all but printable ASCII is escaped as in Rust. `None`
-/// where a word is longer than the system's words are.
+/// The words after the program's name. A word that is not UTF-8 gets a mark before its bytes, or after its first `-`,
+/// and all but printable ASCII in it is escaped as in Rust. `None` if a word is longer than `MOST_WORD_LEN`.
 pub fn marked_words<R: Env + AllocGlobal>(rt: &R) -> Result<Option<Vec<String>>, AllocError> {
     let alloc = rt.alloc();
     let mut buffer = vec![in alloc; 0u8; MOST_WORD_LEN]?;
@@ -52,7 +51,7 @@ pub fn any_is_marked(texts: &[String]) -> bool {
     false
 }
 
-/// Takes the marks off the words, and answers copies of those that had one.
+/// Takes the marks off the words, and returns copies of the words that had one.
 pub fn take_marks(alloc: Global, words: &mut Vec<String>) -> Result<Vec<String>, AllocError> {
     let mut unmarked = Vec::new(alloc);
     for place in 0..words.len() {

@@ -12,8 +12,9 @@ use std::alloc::{AllocError, Global};
 
 /// The options in clap's matches, each under the name of its field as id.
 ///
-/// `Usage` where no pattern is given: neither -e nor -f nor an operand. `OutOfMemory` where a
-/// growth was refused.
+/// # Errors
+/// - `Usage` where no pattern is given: neither -e nor -f nor an operand.
+/// - `OutOfMemory` where a growth was refused.
 pub fn options_of(alloc: Global, matches: &ArgMatches<'_>) -> Result<GrepOptions, Fault>
     ensures ok { IfOk result (IsOptionsOf matches.now) }
     ensures given { OnOk result (gives_pattern matches.now ≡ true) }
@@ -62,12 +63,14 @@ fn no_pattern(alloc: Global) -> Fault
     Fault::usage(String::from_str(alloc, "litgrep: no pattern given\n"))
 }
 
+/// Whether a flag was used, once or more.
 fn is_given(matches: &ArgMatches<'_>, id: &str) -> bool
     ensures { result ≡ is_used matches.now id.now }
 {
     matches.get_count(id) > 0
 }
 
+/// Which case differences are ignored, by the flag `fold`.
 fn fold_of(matches: &ArgMatches<'_>) -> Fold
     ensures { result ≡ (if is_used matches.now (codes "fold") then Ascii else No) }
 {

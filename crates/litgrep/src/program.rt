@@ -14,8 +14,8 @@ use program_words::Fault;
 use std::io::Read;
 use std::rt::{Env, Files};
 
-/// Serves the words of the command line over a standard input, and answers how the program ends. A
-/// write that fails ends it with `Trouble`.
+/// Serves the words of the command line over a standard input, and returns how the program ends. A write that fails
+/// ends it with `Trouble`.
 pub fn serve<R: Env + Files + AllocGlobal, S: Read + Copy + Drop, W: ByteOut, E: ByteOut>(
     rt: &R,
     standard: S,
@@ -60,7 +60,8 @@ fn refuse<E: ByteOut>(fault: &Fault, err: &mut E) -> Status
     Status::Trouble
 }
 
-/// The message on that. After an error some of it may be written, from its start.
+/// Writes the message on words that are refused. The only error is `WriteFault`; a prefix of the message may be written
+/// then.
 fn say_fault<E: ByteOut>(fault: &Fault, err: &mut E) -> Result<(), Stop>
     ensures ok { OnOk result (Writes (writer E.written E.has_failed err.old) (writer E.written E.has_failed err.new) (message_on out_of_memory fault.now)) }
     ensures err { OnErr result (WritesPrefix (writer E.written E.has_failed err.old) (writer E.written E.has_failed err.new) (message_on out_of_memory fault.now)) }

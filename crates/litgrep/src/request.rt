@@ -1,11 +1,11 @@
-//! What the words of the command line ask for.
+//! From the words of the command line to the options of a run.
 use crate::marked_words::{any_is_marked, is_marked, marked_words, take_marks};
 use crate::words::options;
 use grep_run::GrepOptions;
 use program_words::{Fault, words};
 use std::rt::Env;
 
-/// What the words of the command line ask for.
+/// The options of a run, and the operands that name no file.
 #[derive(Drop)]
 pub struct Request {
     pub options: GrepOptions,
@@ -29,7 +29,7 @@ pub fn read_request<R: Env + AllocGlobal>(rt: &R) -> Result<Request, Fault> {
     }
 }
 
-/// What words ask for of which one is not UTF-8. Where such a word is no file to search, that is the fault.
+/// What the words ask for if some word is not UTF-8. The fault is `unread` if such a word is no file to search.
 fn read_bytes<R: Env + AllocGlobal>(rt: &R, unread: Fault) -> Result<Request, Fault> {
     let Some(words) = marked_words(rt)? else {
         return Err(unread);

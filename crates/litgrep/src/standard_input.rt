@@ -1,4 +1,4 @@
-//! Standard input, and whether lines go to the file behind it.
+//! Standard input, unless the lines of a run go to the same file.
 use std::io::Read;
 use std::os::unix::fs::MetadataExt;
 use std::rt::Files;
@@ -15,7 +15,7 @@ const OUTPUT: &str = "/proc/self/fd/1";
 pub enum StandardInput<S> {
     /// It can be read.
     Readable(S),
-    /// It is standard output too. Each read fails.
+    /// It is the file of standard output. Each read fails.
     Output,
 }
 

@@ -10,7 +10,7 @@ use grep_run::GrepOptions;
 use program_words::{Fault, VERSION, matches_of};
 use std::alloc::{AllocError, Global};
 
-/// The flags, each with the id that `options_of` knows it by.
+/// The flags: the id that `options_of` knows, and the two spellings. `fixed` changes nothing, so nobody reads it.
 static FLAGS: [(&str, char, &str); 9] = [
     ("fixed", 'F', "fixed-strings"),
     ("count", 'c', "count"),
@@ -69,6 +69,7 @@ fn command<'a>(alloc: Global) -> Result<Command<'a>, AllocError> {
         .arg(operands(alloc))
 }
 
+/// The pattern lists, -e.
 fn lists<'a>(alloc: Global) -> Arg<'a> {
     Arg::new(alloc, "lists")
         .short('e')
@@ -77,6 +78,7 @@ fn lists<'a>(alloc: Global) -> Arg<'a> {
         .action(ArgAction::Append)
 }
 
+/// The pattern files, -f.
 fn files<'a>(alloc: Global) -> Arg<'a> {
     Arg::new(alloc, "files")
         .short('f')
@@ -85,6 +87,7 @@ fn files<'a>(alloc: Global) -> Arg<'a> {
         .action(ArgAction::Append)
 }
 
+/// The operands.
 fn operands<'a>(alloc: Global) -> Arg<'a> {
     Arg::new(alloc, "operands")
         .value_name("FILE")
