@@ -170,6 +170,7 @@ fn reading_of(matches: &ArgMatches<'_>) -> Reading
     }
 }
 
+/// How a line of a file writes a pattern, by the flag `hex`.
 fn notation_of(matches: &ArgMatches<'_>) -> Notation
     ensures { IsNotation matches.now result }
 {
@@ -180,6 +181,7 @@ fn notation_of(matches: &ArgMatches<'_>) -> Notation
     }
 }
 
+/// Which case differences are ignored, by the flag `fold`.
 fn fold_of(matches: &ArgMatches<'_>) -> Fold
     ensures { IsFold matches.now result }
 {
@@ -215,7 +217,7 @@ fn value(alloc: Global, matches: &ArgMatches<'_>, id: &str) -> Result<String, Al
     String::from_str(alloc, matches.get_str(id).unwrap_or_default())
 }
 
-/// What litplan takes.
+/// The commands of litplan.
 fn litplan<'a>(alloc: Global) -> Result<Command<'a>, AllocError> {
     let command = Command::new(alloc, "litplan")
         .version(VERSION)
@@ -240,6 +242,7 @@ fn litplan<'a>(alloc: Global) -> Result<Command<'a>, AllocError> {
     with_subcommand(command, scan(alloc))
 }
 
+/// The command `plan`.
 fn plan<'a>(alloc: Global) -> Result<Command<'a>, AllocError> {
     let command = Command::new(alloc, "plan")
         .about("Prints the certificate of the cheapest grouping of a file's patterns")
@@ -250,6 +253,7 @@ fn plan<'a>(alloc: Global) -> Result<Command<'a>, AllocError> {
     command.arg(buckets(alloc))?.arg(file(alloc))
 }
 
+/// The command `check`.
 fn check<'a>(alloc: Global) -> Result<Command<'a>, AllocError> {
     let command = Command::new(alloc, "check")
         .about("Says whether a certificate shows that no grouping of a file's patterns is cheaper")
@@ -265,6 +269,7 @@ fn check<'a>(alloc: Global) -> Result<Command<'a>, AllocError> {
     with_arg(command, certificate(alloc))
 }
 
+/// The plan file whose plan is checked.
 fn plan_checked<'a>(alloc: Global) -> Result<Arg<'a>, AllocError> {
     plan_in_file(alloc)
         .conflicts_with("fold")?
@@ -272,6 +277,7 @@ fn plan_checked<'a>(alloc: Global) -> Result<Arg<'a>, AllocError> {
         .conflicts_with("certificate")
 }
 
+/// The certificate that is checked.
 fn certificate<'a>(alloc: Global) -> Result<Arg<'a>, AllocError> {
     let certificate = Arg::new(alloc, "certificate")
         .value_name("CERT")
@@ -280,6 +286,7 @@ fn certificate<'a>(alloc: Global) -> Result<Arg<'a>, AllocError> {
     Ok(certificate.help("A file with a certificate, as `plan` prints it; - is a file of that name"))
 }
 
+/// The command `pack`.
 fn pack<'a>(alloc: Global) -> Result<Command<'a>, AllocError> {
     let command = Command::new(alloc, "pack")
         .about("Writes the plans of files of patterns to a plan file")
@@ -293,6 +300,7 @@ fn pack<'a>(alloc: Global) -> Result<Command<'a>, AllocError> {
         .arg(output(alloc))
 }
 
+/// The command `explain`.
 fn explain<'a>(alloc: Global) -> Result<Command<'a>, AllocError> {
     let command = Command::new(alloc, "explain")
         .about(
@@ -311,12 +319,14 @@ fn explain<'a>(alloc: Global) -> Result<Command<'a>, AllocError> {
     with_arg(command, file_alone(alloc))
 }
 
+/// The file of patterns that is explained, or the number of a plan.
 fn file_alone<'a>(alloc: Global) -> Result<Arg<'a>, AllocError> {
     file_or_place(alloc)
         .required_unless_present("plan")?
         .required_unless_present("certificate")
 }
 
+/// A plan file of which a plan is taken.
 fn plan_in_file<'a>(alloc: Global) -> Arg<'a> {
     Arg::new(alloc, "plan")
         .long("plan")
@@ -325,6 +335,7 @@ fn plan_in_file<'a>(alloc: Global) -> Arg<'a> {
         .help("A plan file; - is standard input. Its plan I is taken, from 0, or its first")
 }
 
+/// The plan file whose plan is explained.
 fn planned_alone<'a>(alloc: Global) -> Result<Arg<'a>, AllocError> {
     plan_in_file(alloc)
         .conflicts_with("fold")?
@@ -333,6 +344,7 @@ fn planned_alone<'a>(alloc: Global) -> Result<Arg<'a>, AllocError> {
         .conflicts_with("certificate")
 }
 
+/// The certificate that is explained.
 fn certificate_alone<'a>(alloc: Global) -> Result<Arg<'a>, AllocError> {
     Arg::new(alloc, "certificate")
         .long("certificate")
@@ -346,6 +358,7 @@ fn certificate_alone<'a>(alloc: Global) -> Result<Arg<'a>, AllocError> {
         .conflicts_with("file")
 }
 
+/// A file of patterns; after a plan file the number of a plan.
 fn file_or_place<'a>(alloc: Global) -> Arg<'a> {
     Arg::new(alloc, "file")
         .value_name("FILE")
@@ -355,6 +368,7 @@ fn file_or_place<'a>(alloc: Global) -> Arg<'a> {
         )
 }
 
+/// The command `migrate`.
 fn migrate<'a>(alloc: Global) -> Result<Command<'a>, AllocError> {
     let input = Arg::new(alloc, "input")
         .value_name("IN")
@@ -369,6 +383,7 @@ fn migrate<'a>(alloc: Global) -> Result<Command<'a>, AllocError> {
         .arg(output(alloc))
 }
 
+/// The command `scan`.
 fn scan<'a>(alloc: Global) -> Result<Command<'a>, AllocError> {
     let command = Command::new(alloc, "scan")
         .about("Finds a file's patterns in an input, by several workers at once")
@@ -384,6 +399,7 @@ fn scan<'a>(alloc: Global) -> Result<Command<'a>, AllocError> {
         .arg(input(alloc))
 }
 
+/// The text that is searched.
 fn input<'a>(alloc: Global) -> Arg<'a> {
     Arg::new(alloc, "input")
         .value_name("INPUT")
@@ -392,6 +408,7 @@ fn input<'a>(alloc: Global) -> Arg<'a> {
         .help("What is searched, read whole; - is standard input")
 }
 
+/// The number of buckets.
 fn buckets<'a>(alloc: Global) -> Arg<'a> {
     Arg::new(alloc, "buckets")
         .long("buckets")
@@ -401,21 +418,25 @@ fn buckets<'a>(alloc: Global) -> Arg<'a> {
         .help("How many buckets the plan may have; 8 if not given")
 }
 
+/// The flag for the number of hits alone.
 fn count<'a>(alloc: Global) -> Result<Arg<'a>, AllocError> {
     let count = flag(alloc, "count")?.long("count");
     Ok(count.help("Print only the number of hits"))
 }
 
+/// The flag for hits with their literals.
 fn names<'a>(alloc: Global) -> Result<Arg<'a>, AllocError> {
     let names = flag(alloc, "names")?.long("names").conflicts_with("count")?;
     Ok(names.help("Print the start of each hit and its literal, in place of its end"))
 }
 
+/// The flag for a drawing.
 fn svg<'a>(alloc: Global) -> Result<Arg<'a>, AllocError> {
     let svg = flag(alloc, "svg")?.long("svg");
     Ok(svg.help("Draw the plan, as an SVG file"))
 }
 
+/// The number of workers.
 fn workers<'a>(alloc: Global) -> Arg<'a> {
     Arg::new(alloc, "workers")
         .long("workers")
@@ -426,11 +447,13 @@ fn workers<'a>(alloc: Global) -> Arg<'a> {
         .help("How many workers share the input, 1 to 16")
 }
 
+/// The flag that ignores case.
 fn fold<'a>(alloc: Global) -> Result<Arg<'a>, AllocError> {
     let fold = flag(alloc, "fold")?.short('i').long("ignore-case");
     Ok(fold.help("Take A to Z for a to z, so that patterns that differ in case are one"))
 }
 
+/// The flag for patterns in hexadecimal.
 fn hex<'a>(alloc: Global) -> Result<Arg<'a>, AllocError> {
     let hex = flag(alloc, "hex")?.long("hex");
     Ok(hex.help("Read a line of FILE as a pattern in hexadecimal, two digits a byte"))
@@ -442,6 +465,7 @@ fn flag<'a>(alloc: Global, id: &'a str) -> Result<Arg<'a>, AllocError> {
     flag.overrides_with(id)
 }
 
+/// The plan file that is made.
 fn output<'a>(alloc: Global) -> Arg<'a> {
     Arg::new(alloc, "output")
         .value_name("OUT")
@@ -450,6 +474,7 @@ fn output<'a>(alloc: Global) -> Arg<'a> {
         .help("The plan file, which is made or emptied; - is a file of that name")
 }
 
+/// The files of patterns.
 fn file<'a>(alloc: Global) -> Arg<'a> {
     Arg::new(alloc, "file")
         .value_name("FILE")

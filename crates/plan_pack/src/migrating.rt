@@ -53,7 +53,7 @@ pub fn migrate_file<'a, F: Files>(
     }
 }
 
-/// Migrates plans to the plan file of a name.
+/// Migrates plans to the plan file of a name. Returns what `migrate_file` returns.
 fn migrate_to<'a, F: Files>(
     alloc: Global,
     plans: &[Compiled],

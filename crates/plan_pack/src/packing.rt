@@ -27,8 +27,8 @@ pub fn stop_of<O: Drop>(unmade: Unmade<'_, O>) -> Stop<'_>
     stop
 }
 
-/// Makes the plan file of files of patterns, which has a plan for each, in order; and answers it as it was written. The
-/// patterns of all are read and planned before it is made.
+/// Makes the plan file of files of patterns, with a plan for each, in order. Returns the file as it was written. The
+/// patterns of all files are read and planned before it is made.
 ///
 /// # Errors
 /// - `Refused` with the plan file's name, where it is also the name of a file of patterns: then nothing is read. Else
@@ -36,8 +36,8 @@ pub fn stop_of<O: Drop>(unmade: Unmade<'_, O>) -> Stop<'_>
 ///   it cannot be made or not be written to its end.
 /// - `OutOfMemory`, where a growth was refused.
 ///
-/// Beside them stands the file that was made, if one was: it holds a prefix of the plan file, and not all of
-/// it, and a write to it failed exactly where its name is refused. After `OutOfMemory` it is empty.
+/// With them comes the file that was made, if one was. It holds a prefix of the plan file, and not all of it; after
+/// `OutOfMemory` nothing. A write to it failed exactly where its name is refused.
 pub fn pack<'a, F: Files>(
     alloc: Global,
     reading: Reading,
@@ -140,7 +140,13 @@ fn with_plan(mut plans: Vec<Compiled>, plan: Compiled) -> Result<Vec<Compiled>, 
     }
 }
 
-/// Makes the plan file of plans.
+/// Makes the plan file of plans, at most 64, under a name, and returns it as it was written.
+///
+/// # Errors
+/// - `Refused` with the name, where the file cannot be made or not be written to its end.
+/// - `OutOfMemory`, where a growth was refused.
+///
+/// With them comes the file that was made, if one was, as with those of `pack`.
 pub fn make<'a, F: Files>(
     alloc: Global,
     plans: &[Compiled],

@@ -12,7 +12,7 @@ pub struct PatternFiles {
 }
 
 impl PatternFiles {
-    /// The files of these names, if a plan file can hold so many plans.
+    /// The files of these names, if there are 1 to 64.
     pub fn new(names: Vec<String>) -> Option<PatternFiles>
         ensures { MatchOption result (¬ AreFiles (length names.items)) (λ files. files.names ≡ names) }
     {

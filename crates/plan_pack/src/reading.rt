@@ -44,7 +44,7 @@ pub fn list_of<'a, F: Files>(
     }
 }
 
-/// The list of a file of patterns, and where each pattern stands in it.
+/// The list of a file of patterns, where each pattern stands in it, and whether a pattern is null.
 ///
 /// # Errors
 /// The errors of `list_of`.

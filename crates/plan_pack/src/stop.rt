@@ -6,7 +6,8 @@ use lit_base::Fault;
 use plan_file::Cause;
 use std::alloc::AllocError;
 
-/// Why a request has a message in place of an answer.
+/// Why a request has a message in place of an answer. No call of this crate returns `NoCertificate` or `NoPlan`: they
+/// are for its callers.
 #[derive(Clone, Copy, Debug)]
 pub enum Refusal<'a> {
     /// The file of this name cannot be opened, made, read or written.
@@ -30,7 +31,7 @@ pub enum Refusal<'a> {
 pub enum Stop<'a> {
     /// The request has a message in place of an answer.
     Refused(Refusal<'a>),
-    /// A write to standard output failed.
+    /// A write to standard output failed. No call of this crate returns it.
     WriteFault,
     /// A growth was refused.
     OutOfMemory,

@@ -23,7 +23,7 @@ use plan_view::{plan_svg, plan_text};
 use run_planner::{Fault, plan};
 use std::alloc::{AllocError, Global};
 
-/// Writes what there is to see of the plan of a file's patterns, a text or a drawing; or where they are wrong.
+/// Writes the plan of a file's patterns, as a text or a drawing; or where the file is wrong.
 pub fn answer_explain<'a, F: Files, W: ByteOut>(
     alloc: Global,
     request: &'a ExplainRequest,
@@ -45,7 +45,7 @@ pub fn answer_explain<'a, F: Files, W: ByteOut>(
     }
 }
 
-/// Writes what there is to see of the list's plan, whose patterns stand at these places.
+/// Writes the plan of the list, as a text or a drawing. The patterns stand at these places of the list.
 fn explain_list<'a, W: ByteOut>(
     alloc: Global,
     profile: Profile,
@@ -87,7 +87,7 @@ fn explained(
     }
 }
 
-/// Writes what there is to see of a plan of a plan file, a text or a drawing; or where the file is wrong.
+/// Writes a plan of a plan file, as a text or a drawing; or where the file is wrong.
 pub fn answer_explain_plan<'a, F: Files, W: ByteOut>(
     alloc: Global,
     svg: bool,
@@ -107,7 +107,7 @@ pub fn answer_explain_plan<'a, F: Files, W: ByteOut>(
     }
 }
 
-/// Writes what there is to see of one of the plans of a file.
+/// Writes one of the plans of a file, as a text or a drawing.
 fn explain_one<'a, W: ByteOut>(
     alloc: Global,
     svg: bool,
@@ -126,7 +126,7 @@ fn explain_one<'a, W: ByteOut>(
     }
 }
 
-/// Writes what there is to see of a plan, whose list has no patterns that were dropped.
+/// Writes a plan, as a text or a drawing. Nothing is known of dropped patterns, so none are reported.
 fn explain_plan<'a, W: ByteOut>(
     alloc: Global,
     svg: bool,

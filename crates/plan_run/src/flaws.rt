@@ -1,4 +1,4 @@
-//! Where an input is wrong, as `explain` says it.
+//! Reporting where an input is wrong, for `explain`.
 ghost use Rattle.std.specs.Prelude.{◌≡◌, ◌||◌, Err, IfOk, MatchResult, Ok, Some, false, string_bytes};
 ghost use Rattle.std.specs.Option.{option_map};
 ghost use Rattle.plan_pack.specs.Stops.{is_write};
@@ -111,7 +111,7 @@ fn wrong_field(alloc: Global, cause: Cause) -> Result<String, AllocError>
     }
 }
 
-/// A text that there was memory for.
+/// The text in `Some`, if there was memory for it.
 fn some(text: Result<String, AllocError>) -> Result<Option<String>, AllocError>
     ensures { MatchResult text (λ t. result ≡ Ok (Some t)) (λ e. result ≡ Err e) }
 {

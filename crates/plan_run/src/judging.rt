@@ -35,7 +35,7 @@ pub fn check_list<'a, F: Files, W: ByteOut>(
     }
 }
 
-/// The verdict on the certificate of a file that is open.
+/// Writes the verdict on the certificate of a file that is open.
 fn judge<'a, I: ByteIn, W: ByteOut>(
     alloc: Global,
     list: &LitList,
@@ -56,7 +56,7 @@ fn judge<'a, I: ByteIn, W: ByteOut>(
     }
 }
 
-/// The verdict on a certificate.
+/// Writes the verdict on a certificate.
 pub fn verdict<'a, W: ByteOut>(
     alloc: Global,
     list: &LitList,
@@ -98,7 +98,7 @@ pub fn not_certified(alloc: Global, reason: Reason) -> Result<String, AllocError
     }
 }
 
-/// The verdict on a plan of a plan file.
+/// Writes the verdict on a plan of a plan file.
 pub fn answer_check_plan<'a, F: Files, W: ByteOut>(
     alloc: Global,
     file: &'a str,
@@ -117,7 +117,7 @@ pub fn answer_check_plan<'a, F: Files, W: ByteOut>(
     }
 }
 
-/// The verdict on one of the plans of a file.
+/// Writes the verdict on one of the plans of a file.
 fn check_plan<'a, W: ByteOut>(
     alloc: Global,
     file: &'a str,

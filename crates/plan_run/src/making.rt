@@ -14,7 +14,7 @@ use byte_io::{ByteOut, Files};
 use plan_pack::{Stop, migrate_file, pack, stop_of};
 use std::alloc::Global;
 
-/// Makes the plan file of files of patterns, and answers nothing but that it stands.
+/// Makes the plan file of files of patterns. It writes nothing to standard output.
 pub fn answer_pack<'a, F: Files>(
     alloc: Global,
     request: &'a PackRequest,

@@ -19,6 +19,7 @@ pub fn say<E: ByteOut>(alloc: Global, stop: Stop<'_>, err: &mut E)
     }
 }
 
+/// Writes the message on a refusal, or that there is no memory for it.
 fn say_refusal<E: ByteOut>(alloc: Global, refusal: Refusal<'_>, err: &mut E)
     ensures { SaysStop (Stop.Refused refusal.entry) (E.has_failed err.new) (E.written err.old) (E.written err.new) }
 {

@@ -9,7 +9,7 @@ use lit_cert::{Certificate, Fault, write_cert};
 use plan_pack::Stop;
 use std::alloc::Global;
 
-/// Writes a text, and answers this status.
+/// Writes a text, and returns this status. The only error is `WriteFault`.
 pub fn report<'a, W: ByteOut>(text: &str, status: Status, out: &mut W) -> Result<Status, Stop<'a>>
     ensures text { Writes text.now status result (W.written out.old) (W.written out.new) }
     ensures flag { W.has_failed out.new ≡ (W.has_failed out.old || is_write_fault result) }
@@ -17,7 +17,7 @@ pub fn report<'a, W: ByteOut>(text: &str, status: Status, out: &mut W) -> Result
     report_bytes(text.as_bytes(), status, out)
 }
 
-/// Writes bytes, and answers this status.
+/// Writes bytes, and returns this status. The only error is `WriteFault`.
 pub fn report_bytes<'a, W: ByteOut>(
     bytes: &[u8],
     status: Status,
@@ -32,7 +32,7 @@ pub fn report_bytes<'a, W: ByteOut>(
     }
 }
 
-/// Writes the text of a certificate.
+/// Writes the text of a certificate. The errors are `WriteFault` and `OutOfMemory`.
 pub fn report_certificate<'a, W: ByteOut>(
     alloc: Global,
     certificate: &Certificate,

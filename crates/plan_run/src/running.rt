@@ -47,7 +47,8 @@ pub fn run<R: Threads + Sync, F: Files, W: ByteOut, E: ByteOut>(
     }
 }
 
-/// Answers a request as far as writes and memory allow, and says nothing.
+/// Answers a request as far as writes and memory allow. A refusal, a write to `out` that failed, and want of memory are
+/// returned as `Stop`, without a message.
 pub fn answer<'a, R: Threads + Sync, F: Files, W: ByteOut>(
     rt: &R,
     alloc: Global,

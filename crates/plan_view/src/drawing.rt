@@ -158,7 +158,7 @@ fn push_bucket(
     Ok(())
 }
 
-/// How far right of the first literal a place stands.
+/// How far right of the first literal a place stands, of 640 for the whole list.
 fn across(count: usize, place: usize) -> u64
     requires some { 0 < count }
     requires within { place ≤ count }
@@ -169,7 +169,7 @@ fn across(count: usize, place: usize) -> u64
     place as u64 * 640 / count as u64
 }
 
-/// How high a cost stands.
+/// How high a bar of this cost is, of 200 for the highest.
 fn height(cost: u64, highest: u64) -> u64
     requires cost { cost < 2 ^ 40 }
     requires highest { 0 < highest }
@@ -323,7 +323,7 @@ fn push_said(label: &[u8], number: u64, text: &mut Vec<u8>) -> Result<(), AllocE
     Ok(())
 }
 
-/// Appends bytes as XML has them.
+/// Appends bytes as the text of an XML element.
 fn push_xml(bytes: &[u8], text: &mut Vec<u8>) -> Result<(), AllocError>
     ensures { OnOk result (text.new.items ≡ text.old.items ++ flat_map xml_byte bytes.now) }
 {
@@ -333,7 +333,7 @@ fn push_xml(bytes: &[u8], text: &mut Vec<u8>) -> Result<(), AllocError>
     Ok(())
 }
 
-/// Appends a byte as XML has it.
+/// Appends a byte as the text of an XML element: `&`, `<` and `>` as entities.
 fn push_xml_byte(byte: u8, text: &mut Vec<u8>) -> Result<(), AllocError>
     ensures { OnOk result (text.new.items ≡ text.old.items ++ xml_byte byte) }
 {

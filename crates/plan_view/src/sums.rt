@@ -155,7 +155,7 @@ fn push_repeats(found: &[Repeat], text: &mut Vec<u8>) -> Result<(), AllocError>
     Ok(())
 }
 
-/// Appends the line of one.
+/// Appends the line of a dropped pattern.
 fn push_repeat(later: usize, first: usize, text: &mut Vec<u8>) -> Result<(), AllocError>
     ensures { OnOk result (text.new.items ≡ text.old.items ++ repeat_line (later, first)) }
 {

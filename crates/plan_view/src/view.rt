@@ -12,8 +12,11 @@ use nib_mask::Masks;
 pub struct View<'a> {
     pub profile: Profile,
     pub list: &'a LitList,
+    /// Where each bucket ends in the list.
     pub ends: &'a Ends,
+    /// The tables of the filter.
     pub masks: &'a Masks,
+    /// What the cut costs.
     pub total: u64,
     ghost some: { 0 < length list.now.texts },
     ghost set: { GivesFilterSets list.now ends.now.items masks.now },
