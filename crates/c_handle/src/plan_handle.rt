@@ -34,6 +34,7 @@ impl PlanHandle {
         }
     }
 
+    /// A handle of the value in a block.
     fn of_block(block: Block<SharedPlan, Global>) -> PlanHandle
         ensures { result.held ≡ Some block.value }
     {
@@ -44,6 +45,7 @@ impl PlanHandle {
         }
     }
 
+    /// The block, unless the handle is null.
     fn into_block(self) -> Option<Block<SharedPlan, Global>>
         ensures { MatchOption result (self.held ≡ None) (λ block. self.held ≡ Some block.value) }
     {
@@ -58,7 +60,7 @@ impl PlanHandle {
         }
     }
 
-    /// A handle of what is in a box.
+    /// A handle of the value in a box.
     pub fn full(held: Box<SharedPlan>) -> PlanHandle
         ensures { result.held ≡ Some held.value }
     {

@@ -34,6 +34,7 @@ impl StreamHandle {
         }
     }
 
+    /// A handle of the value in a block.
     fn of_block(block: Block<OpenStream, Global>) -> StreamHandle
         ensures { result.held ≡ Some block.value }
     {
@@ -44,6 +45,7 @@ impl StreamHandle {
         }
     }
 
+    /// The block, unless the handle is null.
     fn into_block(self) -> Option<Block<OpenStream, Global>>
         ensures { MatchOption result (self.held ≡ None) (λ block. self.held ≡ Some block.value) }
     {
@@ -58,7 +60,7 @@ impl StreamHandle {
         }
     }
 
-    /// A handle of what is in a box.
+    /// A handle of the value in a box.
     pub fn full(held: Box<OpenStream>) -> StreamHandle
         ensures { result.held ≡ Some held.value }
     {

@@ -225,6 +225,7 @@ pub extern "C" fn fiolargu_plan_literal(
     status
 }
 
+/// Writes the bytes of a literal to the start of a buffer, if the plan has the literal and the buffer has room.
 fn write_literal(plan: &Compiled, literal: usize, buffer: &mut [u8], len: &mut usize) -> i32
     ensures literal { result ≡ OK → slice_get plan.now.literals.texts literal ≡ Some (take len.new buffer.new) }
     ensures not_null { result ≡ NULL_HANDLE → ⊥ }

@@ -91,6 +91,7 @@ pub extern "C" fn fiolargu_scan(
     status
 }
 
+/// Finds the hits of a text by the plan of a handle.
 fn scan_held(
     alloc: Global,
     held: &mut SharedPlan,
@@ -165,6 +166,7 @@ pub extern "C" fn fiolargu_next(
     status
 }
 
+/// Finds the first end after a position of a text by a plan, or 0 if there is none.
 fn next_of(plan: &Compiled, text: &[u8], from: usize, end: &mut usize) -> i32
     ensures found { result ≡ OK → IsNextOrNone plan.now.literals text.now from end.new }
     ensures range { result ≡ OUT_OF_RANGE ↔ (length text.now < from) }

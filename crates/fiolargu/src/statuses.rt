@@ -1,4 +1,4 @@
-//! What a call answers.
+//! The statuses that calls return.
 ghost use Rattle.std.specs.Prelude.{◌≡◌};
 ghost use Rattle.fiolargu.specs.Answers.{IsListStatus, StatusesLaw, status_at};
 ghost use Rattle.fiolargu.specs.declared.statuses.TheConstants.{LIST_TOO_LARGE, LITERAL_TOO_LONG, NO_LITERALS, OK, OUT_OF_MEMORY, OUT_OF_RANGE, SMALL_BUFFER, TOO_MANY_PATTERNS};
@@ -21,7 +21,7 @@ pub(crate) const LITERAL_TOO_LONG: i32 = 3;
 /// No pattern has a byte.
 pub(crate) const NO_LITERALS: i32 = 5;
 
-/// A list has more literals than it may have. No call answers it: a list has no more literals than patterns.
+/// A list has more literals than it may have. No call returns it: a list has no more literals than patterns.
 pub(crate) const TOO_MANY_LITERALS: i32 = 6;
 
 /// There are too many pattern bytes.

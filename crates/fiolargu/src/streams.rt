@@ -115,6 +115,7 @@ pub extern "C" fn fiolargu_stream_feed(
     status
 }
 
+/// Feeds the next piece to the stream of a handle.
 fn feed_held(
     alloc: Global,
     held: &mut OpenStream,

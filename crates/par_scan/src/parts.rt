@@ -15,7 +15,7 @@ use std::thread::{Threads, join};
 /// How many workers may share a text.
 pub const MAX_WORKERS: usize = 16;
 
-/// All hits in a text, in order, found by `workers` workers. Each calls the gate, scans a part of the text, and calls
+/// All hits in a text, in order, found by 1 to 16 workers. Each calls the gate, scans a part of the text, and calls
 /// the gate again. The parts are as even as they can be. The calling thread scans the part of a worker that cannot be
 /// started, and waits for the others.
 ///

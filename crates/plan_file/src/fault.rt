@@ -97,17 +97,21 @@ impl<T: Drop> From<AllocFailed<T>> for Fault {
     }
 }
 
-/// A fault, and how many bytes stand from the wrong field on.
+/// A fault, and where it is.
 #[derive(Clone, Copy, Debug, PartialEq, Eq)]
 pub struct Wrong {
+    /// How many bytes of the text come from the start of the wrong field on.
     pub left: usize,
+    /// What is wrong.
     pub cause: Cause,
 }
 
 /// Why reading stops.
 #[derive(Clone, Copy, Debug, PartialEq, Eq)]
 pub enum Stop {
+    /// A growth was refused.
     OutOfMemory,
+    /// A field is wrong.
     Wrong(Wrong),
 }
 

@@ -9,7 +9,7 @@ pub const MAGIC: u32 = 0x4C50_4C46;
 /// Plans in a file, at most.
 pub const MAX_PLANS: usize = 64;
 
-/// How many plans those are.
+/// The law of the limit: `MAX_PLANS` is 64.
 pub fn limits_law()
     ensures { MAX_PLANS ≡ 64 }
 {}

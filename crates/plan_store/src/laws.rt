@@ -15,8 +15,8 @@ use std::thread::{Threads, join};
 /// The result of one of two threads: the ticket of its own plan, and the ticket that it found under the other's number.
 pub type Met = (Ticket, Option<Ticket>);
 
-/// The law that a plan is shown in every thread: one thread publishes it, and another that is handed
-/// the ticket is shown that very plan. The only refusal is `OutOfMemory`, which hands the plan back.
+/// The law that a plan is shown in every thread: one thread publishes it, and another that gets the ticket is shown
+/// this plan. The only error is `OutOfMemory`, with the plan.
 pub fn published_is_shown<'s, R: Threads + Wait + Sync>(
     rt: &R,
     store: &'s PlanStore,
@@ -34,8 +34,8 @@ pub fn published_is_shown<'s, R: Threads + Wait + Sync>(
 }
 
 /// The law that a published plan is never missed under its number: one thread publishes it, and another
-/// looks the number up in the store, with the ticket to show that the plan is there. The only refusal
-/// is `OutOfMemory`, which hands the plan back.
+/// looks the number up in the store, with the ticket to show that the plan is there. The only error is
+/// `OutOfMemory`, with the plan.
 pub fn published_is_there<'s, R: Threads + Wait + Sync>(
     rt: &R,
     store: &'s PlanStore,
@@ -53,9 +53,9 @@ pub fn published_is_there<'s, R: Threads + Wait + Sync>(
     Ok((ticket, shown))
 }
 
-/// The law that who is handed a number finds its plan: one thread publishes the plan, and another that
-/// has nothing but the number looks it up. Where the look-up answers, it answers with a ticket of that
-/// number and of that very plan. The only refusal is `OutOfMemory`, which hands the plan back.
+/// The law that a number leads to its plan: one thread publishes the plan, and another that has only the number looks
+/// it up. If the look-up finds a ticket, it is a ticket of this number and of this plan. The only error is
+/// `OutOfMemory`, with the plan.
 pub fn published_is_found<R: Threads + Wait + Sync>(
     rt: &R,
     store: &PlanStore,
@@ -76,9 +76,9 @@ pub fn published_is_found<R: Threads + Wait + Sync>(
     Ok((ticket, found))
 }
 
-/// The law that it does not matter who is first: while one thread publishes a plan, another looks up a
-/// number of its choice. Where that is the number which the plan was given, and the look-up answers, it
-/// answers with that very plan. The only refusal is `OutOfMemory`, which hands the plan back.
+/// The law that it does not matter who is first: while one thread publishes a plan, another looks up a number of its
+/// choice. If the plan got this number, and the look-up finds a ticket, it is a ticket of this plan. The only error is
+/// `OutOfMemory`, with the plan.
 pub fn published_beside_a_find<R: Threads + Wait + Sync>(
     rt: &R,
     store: &PlanStore,

@@ -38,8 +38,8 @@ impl PlanStore {
         Ok(PlanStore { plans })
     }
 
-    /// Stores the plan under a number of its own. The only refusal is `OutOfMemory`, which hands the
-    /// plan back. It may wait for another thread that makes room for plans at this moment.
+    /// Stores the plan under a number of its own. The only error is `OutOfMemory`, with the plan. It may wait for
+    /// another thread that makes room for plans at this moment.
     pub fn publish(&self, rt: &impl Wait, plan: Compiled) -> Result<Ticket, (Fault, Compiled)>
         ensures here { IfOk result (λ ticket. IsOf self.now ticket) }
         ensures plan { IfOk result (λ ticket. ticket.plan ≡ plan) }

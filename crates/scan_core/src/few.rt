@@ -103,7 +103,7 @@ impl<T: Drop> Few<T> {
         *self.get_mut(place) = item;
     }
 
-    /// Takes the element at a place out.
+    /// Removes the element at a place. The elements after it move up by one place.
     pub(crate) fn remove(&mut self, place: usize)
         requires { place < length self.old }
         ensures { self.new ≡ remove self.old place }

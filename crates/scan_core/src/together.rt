@@ -65,7 +65,7 @@ fn both<T: Drop>(first: Result<T, Fault>, second: Result<T, Fault>) -> Result<(T
     Ok((first, second))
 }
 
-/// A session after a request that it answers.
+/// Answers a request of a session, and returns the session and the replies.
 fn answer_of<'s, R: Wait>(
     rt: &R,
     alloc: Global,

@@ -5,7 +5,7 @@ ghost use Rattle.scan_run.specs.Limits.{AreConnections, ConnectionsLaw};
 /// Connections of one run, at most.
 pub const MAX_CONNECTIONS: usize = 64;
 
-/// The law of that limit.
+/// The law of the limit: `MAX_CONNECTIONS` is 64.
 pub fn connections_law()
     ensures { ConnectionsLaw }
 {}

@@ -100,7 +100,7 @@ pub fn load_named<R: Wait, F: Opener, E: ByteOut>(
     }
 }
 
-/// Says why a file is not loaded. The answer is the fault, or that this could not be written.
+/// Says why a file is not loaded. Returns the fault, or `WriteFault` if the message could not be written.
 fn refused<E: ByteOut>(fault: Fault, name: &str, err: &mut E) -> Fault
     ensures said { IsMessage (message_on name.now fault) fault result (E.written err.old) (E.written err.new) }
     ensures broken { result ≡ Fault.WriteFault → fault ≢ Fault.WriteFault → IsTrue (E.has_failed err.new) }
@@ -120,7 +120,7 @@ fn refused<E: ByteOut>(fault: Fault, name: &str, err: &mut E) -> Fault
     }
 }
 
-/// Publishes the plans of a file, and says the number of each.
+/// Publishes the plans of a file, and writes the number of each, in order.
 fn publish_file<R: Wait, I: ByteIn, E: ByteOut>(
     rt: &R,
     alloc: Global,
@@ -195,7 +195,7 @@ fn say_number<E: ByteOut>(number: u64, err: &mut E) -> Result<(), Failed>
     )
 }
 
-/// Writes a line that stands in three parts, for which it needs no memory.
+/// Writes a line that is given in three parts. It takes no memory.
 pub(crate) fn say<E: ByteOut>(
     prefix: &[u8],
     middle: &[u8],

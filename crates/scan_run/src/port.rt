@@ -20,7 +20,7 @@ pub fn say_port<E: ByteOut>(port: u16, err: &mut E) -> Result<(), Failed>
     say_line(u64::from(port), err)
 }
 
-/// Writes that line of a number.
+/// Writes the line of a port, by its number.
 fn say_line<E: ByteOut>(port: u64, err: &mut E) -> Result<(), Failed>
     ensures ok { OnOk result (Appends (E.written err.old) (E.written err.new) (port_line port)) }
     ensures err { OnErr result (AppendsPart (E.written err.old) (E.written err.new) (port_line port)) }

@@ -1,4 +1,4 @@
-//! Replies on their way.
+//! Replies that wait to be written.
 ghost use Rattle.std.specs.Prelude.{◌≡◌, ◌≢◌, ◌<◌, ◌++◌, [], length, IsTrue, OnErr, OnOk};
 ghost use Rattle.scan_wire.specs.Frames.{FitsReply, IsBlock, reply_text};
 ghost use Rattle.scan_wire.specs.Messages.{Hits, reply_parts};
@@ -87,7 +87,7 @@ impl Outbox {
         self.flush_full(out)
     }
 
-    /// Writes all that waits, where that is much.
+    /// Writes all that waits, if it is `FULL` bytes or more.
     fn flush_full<W: ByteOut>(&mut self, out: &mut W) -> Result<(), Stop>
         ensures ok { OnOk result (Sends (W.written out.old) (W.written out.new) self.old self.new []) }
         ensures err { OnErr result (SendsLess (W.written out.old) (W.written out.new) self.old []) }

@@ -50,7 +50,7 @@ impl Decoder {
     ///
     /// # Errors
     /// - `BadFrame` with its first cause, where a bad frame comes after the requests. Those before
-    ///   it are added, and from then on each call answers this fault and does nothing else.
+    ///   it are added, and from then on each call returns this fault and does nothing else.
     /// - `OutOfMemory`, where a growth was refused. Decoder and `out` are then as before.
     pub fn feed(&mut self, piece: &[u8], out: &mut Vec<Request>) -> Result<(), Fault>
         ensures ok { OnOk result

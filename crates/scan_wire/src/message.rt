@@ -59,7 +59,7 @@ pub enum Reply {
         stream: u32,
         hits: Vec<Hit>,
     },
-    /// All hits of the piece were sent. The stream has `place` bytes now.
+    /// All hits of the piece were sent. `place` is the position of the stream now.
     Fed {
         stream: u32,
         place: u64,

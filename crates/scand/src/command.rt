@@ -32,7 +32,7 @@ where
         (MayHaveFailed (I.has_failed input.new) (I.given input.old) (I.given input.new)) (O.has_failed out.new) (E.has_failed err.new)
         (I.coming input.old) (I.coming input.new) (O.written out.old) (O.written out.new) (E.written err.old) (E.written err.new) }
 
-    // Who ends well had no read and no write that failed.
+    // Where it ends well no read and no write has failed.
     ensures unread { result ≡ Status.Clean → I.has_failed input.new ≡ I.has_failed input.old }
     ensures fault { result ≡ Status.Clean
         → (O.has_failed out.new || E.has_failed err.new) ≡ (O.has_failed out.old || E.has_failed err.old) }

@@ -1,8 +1,10 @@
-//! What `scand` prints of itself.
+//! The texts of `--help` and of refusals.
 
+/// How `scand` is called, as its help has it too.
 pub const USAGE: &str =
     "scand --port P --connections N [--plans FILE]...\n       scand --stdio [--plans FILE]...";
 
+/// A description of `scand`: its options, its plan files, its reports, its statuses and its limits.
 pub const HELP: &str = "\
 Scans byte streams for many literals at once, for clients that speak frames.
 Clients publish lists of literals, open streams by them, and feed bytes in

@@ -15,6 +15,7 @@ use std::alloc::{AllocError, Global};
 pub struct Request {
     /// The names of files whose plans are published, in order, before anything is served.
     pub plans: Vec<String>,
+    /// Who is served.
     pub service: Service,
 }
 
@@ -90,7 +91,7 @@ fn plans_of(alloc: Global, matches: &ArgMatches<'_>) -> Result<Vec<String>, Allo
     strings(alloc, values(matches, "plans"))
 }
 
-/// What scand takes.
+/// The arguments of scand.
 fn scand<'a>(alloc: Global) -> Result<Command<'a>, AllocError> {
     Command::new(alloc, "scand")
         .version(VERSION)
@@ -103,12 +104,14 @@ fn scand<'a>(alloc: Global) -> Result<Command<'a>, AllocError> {
         .arg(plans(alloc))
 }
 
+/// The flag for one client over standard input and output.
 fn stdio<'a>(alloc: Global) -> Arg<'a> {
     Arg::new(alloc, "stdio")
         .long("stdio")
         .action(ArgAction::Count)
 }
 
+/// The port.
 fn port<'a>(alloc: Global) -> Arg<'a> {
     Arg::new(alloc, "port")
         .long("port")
@@ -117,6 +120,7 @@ fn port<'a>(alloc: Global) -> Arg<'a> {
         .value_parser(value_parser!(u16))
 }
 
+/// The number of connections.
 fn connections<'a>(alloc: Global) -> Arg<'a> {
     Arg::new(alloc, "connections")
         .long("connections")
@@ -125,6 +129,7 @@ fn connections<'a>(alloc: Global) -> Arg<'a> {
         .value_parser(value_parser!(usize).range(1..=MAX_CONNECTIONS as i64))
 }
 
+/// The plan files.
 fn plans<'a>(alloc: Global) -> Arg<'a> {
     Arg::new(alloc, "plans")
         .long("plans")
