@@ -10,6 +10,7 @@ use Rattle.std.specs.declared.option.Option.TheVariants.{None, Some}
 use Rattle.std_heap.specs.contracts.GlobalAllocator.TheImpl.{ghosts}
 use Rattle.c_handle.specs.contracts.states.OpenStream.{the_row}
 
+-- what a handle owns that has this allocator and this address
 abbrev pub handle_owns : Global → Ptr → Option the_row.Denot → Fml
 handle_owns alloc p None = feq Ptr p null_ptr
 handle_owns alloc p (Some x) = box_owns (ghosts.dealloc_token alloc) the_row p x

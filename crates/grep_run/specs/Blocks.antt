@@ -22,7 +22,7 @@ abbrev pub selected_in : (List ℕ → Bool) → Option Content → List (ℕ ×
 selected_in test None = []
 selected_in test (Some c) = numbered test 0 (lines_of c)
 
--- there is one
+-- whether there is a selected line
 abbrev pub has_any : List (ℕ × List ℕ) → Bool
 has_any selected = nat_lt 0 (length selected)
 
@@ -44,29 +44,33 @@ block_of o name selected =
     else if o.count then prefix_of o name ++ (decimal (length selected) ++ codes "\n")
     else flat_map (written_line o name) selected
 
--- an input that cannot be opened has no block
+-- the block by the content of an input; an input that cannot be opened has none
 abbrev pub block_in : GrepOptions → (List ℕ → Bool) → List ℕ → Option Content → List ℕ
 block_in o test name None = []
 block_in o test name (Some c) = block_of o name (numbered test 0 (lines_of c))
 
+-- the block of an input
 abbrev pub block : GrepOptions → (List ℕ → Bool) → Input → List ℕ
 block o test input = block_in o test (name_of input.ask) input.source
 
--- a line is selected of the input
+-- whether a line of an input is selected
 abbrev pub has_selected : (List ℕ → Bool) → Input → Bool
 has_selected test input = has_any (selected_in test input.source)
 
--- it is an error: it cannot be opened, or ends in a fault, unless -q or -l ended its reading at a selected line before
+-- whether a content is an error: it cannot be opened, or it ends in a fault. With -q or -l a fault after a selected
+-- line is not met
 abbrev pub is_trouble : GrepOptions → (List ℕ → Bool) → Option Content → Bool
 is_trouble o test None = true
 is_trouble o test (Some c) = c.is_faulty && not ((o.quiet || o.list) && has_any (numbered test 0 (lines_of c)))
 
+-- whether an input is an error
 abbrev pub is_error : GrepOptions → (List ℕ → Bool) → Input → Bool
 is_error o test input = is_trouble o test input.source
 
--- its message, which -s drops
+-- the message by the content of an input; -s drops it
 abbrev pub message_in : GrepOptions → (List ℕ → Bool) → List ℕ → Option Content → List ℕ
 message_in o test name source = if is_trouble o test source && not o.silent then unreadable name else []
 
+-- the message on an input
 abbrev pub message : GrepOptions → (List ℕ → Bool) → Input → List ℕ
 message o test input = message_in o test (name_of input.ask) input.source

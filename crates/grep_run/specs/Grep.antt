@@ -27,6 +27,7 @@ status_where quiet has_selected has_error =
     else if has_selected then Selected
     else NoneSelected
 
+-- the status of an answer
 abbrev pub status_of : GrepOptions → Answer → Status
 status_of o a = status_where o.quiet a.has_selected a.has_error
 
@@ -64,19 +65,22 @@ after_files o s = after_all (asks (files_asked o s)) s
 abbrev pub inputs_of : GrepOptions → Sources → List Input
 inputs_of o s = searched o (selects o (all_patterns o s)) (found (searched_of o) (after_files o s))
 
+-- the answer, by the message on the patterns if there is one
 abbrev pub answer_where : Option (List ℕ) → GrepOptions → Sources → Answer
 answer_where (Some text) o s = refused_with text
 answer_where None o s = answer_to o (selects o (all_patterns o s)) (inputs_of o s)
 
--- grep
+-- the answer of grep
 abbrev pub grep : GrepOptions → Sources → Answer
 grep o s = answer_where (patterns_message o s) o s
 
--- its asks, in order: pattern files, and the files to search unless the patterns are refused
+-- the asks of grep, in order, by the message on the patterns if there is one: pattern files, and the files to search
+-- unless the patterns are refused
 abbrev pub asks_where : Option (List ℕ) → GrepOptions → Sources → List Ask
 asks_where (Some text) o s = asks (files_asked o s)
 asks_where None o s = asks (files_asked o s) ++ asks (inputs_of o s)
 
+-- the asks of grep, in order
 abbrev pub asks_of : GrepOptions → Sources → List Ask
 asks_of o s = asks_where (patterns_message o s) o s
 

@@ -23,7 +23,7 @@ lists_refusal before [] = None
 lists_refusal before (list ∷ lists) =
     earlier (text_refusal before list (pieces list)) (lists_refusal (before ++ pieces list) lists)
 
--- the answer is the refusal, or want of memory before it was met; where there is no refusal there is no fault
+-- the result is the refusal, or want of memory before it; without a refusal there is no fault but want of memory
 abbrev pub RefusesAs : {T : Type 0} → Option Fault → Result T Fault → Type 0
 RefusesAs refusal result =
     MatchResult result (λ _. refusal ≡ None) (λ fault. fault ≢ OutOfMemory → refusal ≡ Some fault)
@@ -33,7 +33,8 @@ abbrev pub patterns_from : Option Content → List (List ℕ)
 patterns_from None = []
 patterns_from (Some c) = lines c.text
 
--- why it gives none, after these patterns: it has more bytes than its limit, it cannot be read, or a pattern is refused
+-- why a content gives no patterns, after the patterns before it: it has more bytes than its limit, it cannot be read,
+-- or a pattern is refused
 abbrev pub content_message : List (List ℕ) → List ℕ → Option Content → Option (List ℕ)
 content_message before name None = Some (unreadable name)
 content_message before name (Some c) =
@@ -41,6 +42,7 @@ content_message before name (Some c) =
     else if c.is_faulty then Some (unreadable name)
     else option_map patterns_refused (text_refusal before c.text (lines c.text))
 
+-- why a pattern file gives none, after the patterns before it
 abbrev pub file_message : List (List ℕ) → Input → Option (List ℕ)
 file_message before file = content_message before (name_of file.ask) file.source
 

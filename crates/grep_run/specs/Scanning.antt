@@ -83,6 +83,7 @@ pub record HasRead (o : GrepOptions) (test : List ℕ → Bool) (name : List ℕ
   pub any : nat_lt 0 b.count ≡ has_any (numbered test 0 (lines_of c))
   pub error : is_fault end ≡ is_trouble o test (Some c)
 
+-- the lines of a content were read, or a prefix of its block was written
 abbrev pub ReadsLines : GrepOptions → (List ℕ → Bool) → List ℕ → Content → Result End Halt → Block → Writer → Writer → Type 0
 ReadsLines o test name c (Ok end) b before out = HasRead o test name c end b before out
 ReadsLines o test name c (Err stop) b before out = WritesPrefix before out (block_in o test name (Some c))

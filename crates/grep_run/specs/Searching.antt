@@ -1,4 +1,4 @@
--- What searching inputs writes and answers.
+-- What searching inputs writes and finds.
 use Rattle.std.specs.Prelude.{◌≡◌, ◌≢◌, ℕ, ◌≤◌, All, Bool, true, false, List, [], ◌++◌, length, Option, None, Result, Ok, Err}
 use Rattle.byte_io.specs.Sources.{AreShort, Ask, Content, Sources, after, after_all, taken_by}
 use Rattle.grep_run.specs.declared.options.GrepOptions.{GrepOptions}
@@ -27,6 +27,7 @@ pub record IsCut (o : GrepOptions) (test : List ℕ → Bool) (name : List ℕ) 
   pub starved : err_new.has_failed ≡ false → Writes err_old err_new []
   pub loud : source ≡ None → o.silent ≢ true
 
+-- one input, by the result
 abbrev pub Searches : GrepOptions → (List ℕ → Bool) → List ℕ → Option Content → Result Found Stop → Writer → Writer → Writer → Writer → Type 0
 Searches o test name source (Ok found) = IsSearched o test name source found
 Searches o test name source (Err stop) = IsCut o test name source
@@ -59,6 +60,7 @@ pub record StopsAt (o : GrepOptions) (test : List ℕ → Bool) (inputs : List I
   pub starved : err_new.has_failed ≡ false → Writes err_old err_new (answer_to o test done).messages
   pub loud : All (λ (input : Input). input.source ≡ None → o.silent ≢ true) last
 
+-- several inputs, by the result
 abbrev pub SearchesAll : GrepOptions → (List ℕ → Bool) → List Input → Sources → Sources → Result Found Stop → Writer → Writer → Writer → Writer → Type 0
 SearchesAll o test inputs s left (Ok found) out_old out_new err_old err_new =
     (left ≡ after_all (asks inputs) s) × AreSearched (answer_to o test inputs) found out_old out_new err_old err_new

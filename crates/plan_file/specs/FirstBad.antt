@@ -54,6 +54,7 @@ pub record IsFirstBad {Part : Type 0} (fits : Part → Type 0) (fields_of : Part
 abbrev pub head_fields : Version × ℕ → List Field
 head_fields h = number_field w32 Magic 0x4C504C46 ∷ number_field w16 wrong_version (version_number h.0) ∷ number_field w16 Count h.1 ∷ []
 
+-- at most 64 plans
 abbrev pub FitsHead : Version × ℕ → Type 0
 FitsHead h = h.1 ≤ 64
 
@@ -63,9 +64,11 @@ pub record Start : Type 0 where
   pub profile : Profile
   pub count : ℕ
 
+-- its fields
 abbrev pub start_fields : Start → List Field
 start_fields s = byte_field Flags (flags_of s.fold s.profile) ∷ number_field w16 Count s.count ∷ []
 
+-- a start that an entry of the version may have
 pub record FitsStart (version : Version) (s : Start) : Type 0 where
   pub profile : CanExpress version s.profile
   pub some : 1 ≤ s.count

@@ -19,6 +19,7 @@ use Rattle.plan_file.specs.declared.version.Version.{Version}
 use Rattle.plan_file.specs.declared.version.Version.TheVariants.{One, Two}
 use Rattle.plan_file.specs.Spelling.{limit_of}
 
+-- a step of reading, and the next step unless a field was wrong
 infixl 10 ◌>>=◌
 abbrev pub ◌>>=◌ : {A B : Type 0} → Result A Wrong → (A → Result B Wrong) → Result B Wrong
 (Ok x) >>= f = f x
@@ -28,17 +29,20 @@ abbrev pub ◌>>=◌ : {A B : Type 0} → Result A Wrong → (A → Result B Wro
 abbrev pub wrong_at : Cause → List ℕ → Wrong
 wrong_at cause bytes = record { left = length bytes; cause = cause }
 
--- each field is read with the bytes after it
+-- ---- a field and the bytes after it
 
+-- a byte
 abbrev pub byte_at : List ℕ → Result (ℕ × List ℕ) Wrong
 byte_at [] = Err (wrong_at Short [])
 byte_at (b ∷ rest) = Ok (b, rest)
 
+-- the number in the first bytes
 abbrev pub number_at : Width → List ℕ → Result (ℕ × List ℕ) Wrong
 number_at w bytes =
     if nat_lt (length bytes) (byte_len w) then Err (wrong_at Short bytes)
     else Ok (from_be_bytes w (take (byte_len w) bytes), drop (byte_len w) bytes)
 
+-- the first n bytes
 abbrev pub bytes_at : ℕ → List ℕ → Result (List ℕ × List ℕ) Wrong
 bytes_at n bytes = if nat_lt (length bytes) n then Err (wrong_at Short bytes) else Ok (take n bytes, drop n bytes)
 

@@ -10,10 +10,11 @@ use Rattle.lit_plan.specs.Plans.{Plan}
 use Rattle.plan_pack.specs.declared.stop.Stop.{Stop}
 use Rattle.plan_pack.specs.declared.stop.Stop.TheVariants.{OutOfMemory, Refused, WriteFault}
 
--- whether the file of this name is one of the operands, of which `-` is standard input
+-- whether an operand is the file of this name; `-` is standard input
 abbrev pub is_file : List ℕ → List ℕ → Bool
 is_file operand name = if bytes_eq operand (codes "-") then false else bytes_eq operand name
 
+-- whether the file of this name is one of the operands
 abbrev pub reads_file : List (List ℕ) → List ℕ → Bool
 reads_file [] name = false
 reads_file (operand ∷ operands) name = if is_file operand name then true else reads_file operands name

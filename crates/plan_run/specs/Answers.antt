@@ -49,11 +49,12 @@ refused_with text = record { output = []; message = text; status = Trouble }
 abbrev pub refuses : Refusal → Answer
 refuses refusal = refused_with (message_on refusal)
 
--- where an input is explained: where it is wrong, if the refusal says so; else its message
+-- where an input is explained: this text on where it is wrong, if there is one; else the message of the refusal
 abbrev pub wrong_or_message : Option (List ℕ) → Refusal → Answer
 wrong_or_message None refusal = refuses refusal
 wrong_or_message (Some text) refusal = printed text Wrong
 
+-- where an input is explained: the answer to a refusal
 abbrev pub where_wrong : Refusal → Answer
 where_wrong refusal = wrong_or_message (wrong_input refusal) refusal
 
@@ -98,10 +99,11 @@ AnswersList reading name source P = AnswersUnless (list_message reading name sou
 abbrev pub certificate_source : List ℕ → List ℕ → Sources → Option Content
 certificate_source file certificate s = taken_by (Named certificate) (after (ask_of file) s)
 
--- to plan, and to check
+-- to plan
 abbrev pub AnswersPlan : Reading → Profile → List ℕ → Sources → Answer → Type 0
 AnswersPlan reading profile file s = AnswersList reading file (taken_by (ask_of file) s) (IsPlanAnswer profile)
 
+-- to check a certificate
 abbrev pub AnswersCheck : Reading → List ℕ → List ℕ → Sources → Answer → Type 0
 AnswersCheck reading file certificate s =
     AnswersList reading file (taken_by (ask_of file) s) (λ list. IsCheckAnswer list certificate (certificate_source file certificate s))
@@ -173,6 +175,7 @@ pub data ExplainsList (reading : Reading) (profile : Profile) (svg : Bool) (name
   HasList : list_message reading name source ≡ None → IsExplainAnswer profile (list_in reading source) svg (patterns_in reading source) a
       → ExplainsList reading profile svg name source a
 
+-- to explain a file of patterns
 abbrev pub AnswersExplain : Reading → Profile → Bool → List ℕ → Sources → Answer → Type 0
 AnswersExplain reading profile svg file s a = ExplainsList reading profile svg file (taken_by (ask_of file) s) a
 
@@ -190,20 +193,23 @@ pub data AnswersPlanAt (wrong : Refusal → Answer) (P : plan.Plan → Answer �
 abbrev pub AnswersCheckPlan : List ℕ → ℕ → Sources → Answer → Type 0
 AnswersCheckPlan file place s a = AnswersPlanAt refuses (λ p. IsVerdict p.literals p.certificate) file place (taken_by (ask_of file) s) a
 
--- and to explain it
+-- the answer about a plan that is explained: its drawing or its text
 abbrev pub IsPlanExplained : Bool → plan.Plan → Answer → Type 0
 IsPlanExplained svg p a = a ≡ printed (explained p.certificate.profile svg p.literals p.certificate.ends []) Done
 
+-- to explain a plan of a plan file
 abbrev pub AnswersExplainPlan : Bool → List ℕ → ℕ → Sources → Answer → Type 0
 AnswersExplainPlan svg file place s a = AnswersPlanAt where_wrong (IsPlanExplained svg) file place (taken_by (ask_of file) s) a
 
--- to explain a certificate
+-- where a certificate is explained: which line is wrong
 abbrev pub wrong_at_line : ℕ → Answer
 wrong_at_line line = printed (wrong_line line) Wrong
 
+-- how many runs a certificate has, and their cost
 abbrev pub IsCertificateReported : CertificateParts → Answer → Type 0
 IsCertificateReported c a = a ≡ printed (certificate_head (length c.ends) c.cost) Done
 
+-- to explain a certificate
 abbrev pub AnswersExplainCertificate : List ℕ → Sources → Answer → Type 0
 AnswersExplainCertificate name s a = IsCertificateAnswer wrong_at_line IsCertificateReported name (taken_by (Named name) s) a
 

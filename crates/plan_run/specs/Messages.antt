@@ -13,10 +13,11 @@ use Rattle.plan_view.specs.Quotes.{whole}
 use Rattle.plan_pack.specs.declared.stop.Refusal.{Refusal}
 use Rattle.plan_pack.specs.declared.stop.Refusal.TheVariants.{NoCertificate, NoLiterals, NoPlan, NoPlanFile, NotHex, Patterns, Unusable}
 
--- on a write to standard output that failed, and on want of memory
+-- on a write to standard output that failed
 abbrev pub write_fault : List ℕ
 write_fault = codes "litplan: refused (18)\n"
 
+-- on want of memory
 abbrev pub out_of_memory : List ℕ
 out_of_memory = codes "litplan: refused (1)\n"
 

@@ -14,6 +14,7 @@ pub record Bound : Type 0 where
   pub ticket : TicketParts
   pub scan : Scanning
 
+-- a session: its store, the tickets of the plans that it published, and its open streams by their numbers
 pub record Serving : Type 0 where
   pub store : Shelves
   pub published_plans : List TicketParts

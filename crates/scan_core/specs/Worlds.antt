@@ -121,6 +121,7 @@ pub record FedAnswer : Type 0 where
   pub blocks : List (List (ℕ × ℕ))
   pub place : ℕ
 
+-- the answer to a piece, by the plan of its stream and the pieces before it
 pub record IsAnswer (plan : plans.Plan) (pieces : List (List ℕ)) (piece : List ℕ) (answer : FedAnswer) : Type 0 where
   pub hits : List (ℕ × ℕ)
   pub past : AreHitsPast plan.literals (concat pieces ++ piece) (length (concat pieces)) hits

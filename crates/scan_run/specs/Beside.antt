@@ -40,8 +40,8 @@ FindsLoaded loaded (Feed stream piece) replies = ⊤
 FindsLoaded loaded (Close stream) replies = ⊤
 FindsLoaded loaded (ShowPlan stream) replies = ⊤
 
--- A request is one event of a session. A plan that it gains by this has no number of another loaded plan, and each loaded
--- plan is found.
+-- A request is one event of a session. A plan that the session gains has no number of another loaded plan, and each
+-- loaded plan is found.
 pub record IsEventBeside (loaded : List TicketParts) (before : Serving) (request : RequestParts) (replies : List ReplyParts) (after : Serving) : Type 0 where
   pub event : IsEvent before request replies after
   pub agreed : AgreeAfter loaded request replies after
@@ -49,10 +49,12 @@ pub record IsEventBeside (loaded : List TicketParts) (before : Serving) (request
 
 -- ---- inside the crate: the session with the tickets
 
+-- a session, and the tickets of the loaded plans
 pub record Beside : Type 0 where
   pub session : Serving
   pub loaded : List TicketParts
 
+-- a request is one event of the session, and the tickets stay
 pub record IsStepBeside (before : Beside) (request : RequestParts) (replies : List ReplyParts) (after : Beside) : Type 0 where
   pub event : IsEventBeside before.loaded before.session request replies after.session
   pub kept : after.loaded ≡ before.loaded

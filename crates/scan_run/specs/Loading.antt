@@ -82,8 +82,8 @@ pub record IsShownFault (coming : Coming) (place : ℕ) (cause : Cause) : Type 0
   pub first : IsFirstFault coming.text place cause
   pub whatever : coming.ending ≡ Faulty → (more : List ℕ) → IsFirstFault (coming.text ++ more) place cause
 
--- Which plans were published for each answer of loading: all of the file, in order; none; where memory ran out, the first,
--- but not all; or, where a line could not be written, the first.
+-- Which plans were published for each answer of loading: all of the file, in order; none; where memory ran out, the
+-- first, but not all; or, where a line could not be written, the first.
 abbrev pub Publishes : Option Coming → Option Coming → List Plan → Result (Unit {0}) Fault → Type 0
 Publishes old new plans (Ok _) = IsFileOf old new plans
 Publishes old new plans (Err OutOfMemory) = (plans ≡ []) ⊎ ((more : List Plan) × (more ≢ []) × IsFileOf old new (plans ++ more))
@@ -98,7 +98,8 @@ pub record IsJudged (text : List ℕ) (result : Result (Unit {0}) Fault) : Type 
   pub refused : (place : ℕ) (cause : Cause) → IsFirstFault text place cause → result ≡ Err (BadPlanFile place cause)
   pub read : result ≢ Err ReadFault
 
--- so it is unless memory runs out or a write fails; and no file is loaded after whose bytes a read fault comes
+-- A file that ends cleanly is judged by its text, unless memory runs out or a write fails. No file is loaded whose
+-- bytes end in a read fault.
 abbrev pub Judges : Coming → Result (Unit {0}) Fault → Type 0
 Judges x result =
     (IsOk result → x.ending ≢ Faulty)
@@ -114,7 +115,7 @@ pub record Loads (store : Shelves) (name : List ℕ) (coming_old coming_new : Op
   pub plans : Publishes coming_old coming_new (plans_of published) answer
   pub said : IsSaid name published answer result err_old err_new
 
--- So it is where nobody keeps the tickets.
+-- the same where nobody keeps the tickets
 abbrev pub LoadsAll : Shelves → List ℕ → Option Coming → Option Coming → Option (List ℕ) → Option (List ℕ) → Result (Unit {0}) Fault → Type 0
 LoadsAll store name coming_old coming_new err_old err_new result =
     (gained : List tickets.TicketParts) × Loads store name coming_old coming_new [] gained err_old err_new result

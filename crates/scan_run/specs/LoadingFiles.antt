@@ -19,6 +19,7 @@ pub record Loading : Type 0 where
   pub tickets : List TicketParts
   pub said : Option (List ℕ)
 
+-- the three as one state
 abbrev pub state : Option Sources → List TicketParts → Option (List ℕ) → Loading
 state files tickets said = record { files = files; tickets = tickets; said = said }
 

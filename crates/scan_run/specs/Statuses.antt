@@ -5,6 +5,7 @@ use Rattle.scan_serve.specs.declared.ended.Ended.TheVariants as ended
 use Rattle.scan_run.specs.declared.status.Status.{Status}
 use Rattle.scan_run.specs.declared.status.Status.TheVariants.{Clean, Unclean, OutOfMemory, Trouble}
 
+-- the number that the program exits with
 abbrev pub code_of : Status → ℕ
 code_of Clean = 0
 code_of Unclean = 1
