@@ -15,14 +15,14 @@ use Rattle.lit_plan.specs.Bounds.{carry_of}
 use Rattle.flow_scan.proofs.TailSteps.{added_after_all, added_joined, added_nothing, last_of_last, last_of_short}
 use Rattle.scan_wire.specs.Messages.{Feed}
 use Rattle.scan_wire.specs.declared.message.TheConstants.{MAX_HITS}
-use Rattle.scan_core.specs.declared.refusal.Refusal.TheVariants.{NoSuchStream, StreamTooLong}
+use Rattle.scan_core.specs.declared.refusal.Refusal.TheVariants.{StreamTooLong}
 use Rattle.scan_core.specs.Blocks.{AreBlocks}
 use Rattle.scan_core.specs.Prefixes.{FeedsPrefix, IsFeeding, IsKept, MayFeed, MovesUpTo, fed_by}
 use Rattle.scan_core.specs.Sessions.{Bound, IsEvent, Serving, by_tails, parts_of}
 use Rattle.scan_core.specs.Steps.{Outcome, fed_replies, moved, refusal_of, stream_at, stream_refusal}
 use Rattle.scan_core.proofs.HitsExist.{hits_exist}
 use Rattle.scan_core.specs.Streams.{StandsAt}
-use Rattle.scan_core.proofs.StepLemmas.{a_stream, fed_too_long, no_stream, step_accepted}
+use Rattle.scan_core.proofs.StepLemmas.{a_stream, fed_too_long, step_accepted}
 use Rattle.scan_core.proofs.StreamLemmas.{lookup_at, set_at}
 use Rattle.scan_core.proofs.StreamLists.{lookup_set, set_twice, when_so}
 
@@ -176,11 +176,6 @@ pub feed_room : (s : Serving) (stream index : ℕ) (piece : List ℕ) (at : Stan
 feed_room s stream index piece at none =
     room_of (2 ^ 64) (at.state.scan.place + length piece)
     (sym (a_stream s stream index (λ state. if nat_le (2 ^ 64) (state.scan.place + length piece) then Some StreamTooLong else None) at) ∙ none)
-
--- a stream that is not refused is open
-pub feed_open : (s : Serving) (stream : ℕ) (piece : List ℕ) → refusal_of by_tails (parts_of s) (Feed stream piece) ≡ None → lookup (nat_eq stream) s.streams ≡ None → ⊥
-feed_open s stream piece none missing =
-    none-some NoSuchStream (sym none ∙ no_stream s stream (λ state. if nat_le (2 ^ 64) (state.scan.place + length piece) then Some StreamTooLong else None) missing)
 
 -- a prefix of a piece is fed to the stream at an index
 pub prefix_fed : (s new : Serving) (stream index : ℕ) (piece : List ℕ) (most count : ℕ) (old hits : List (ℕ × ℕ)) (next : ℕ × Bound) → (at : StandsAt stream s.streams index) → MovesUpTo (stream, at.state) piece most count old hits next → new ≡ record s { streams = set s.streams index next } → FeedsPrefix s stream piece most count old hits new
