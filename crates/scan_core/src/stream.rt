@@ -1,5 +1,5 @@
 //! An open stream.
-ghost use Rattle.std.specs.Prelude.{◌≡◌, ◌+◌, ◌++◌, ◌^◌, ◌≤◌, ◌<◌, IfOk, IfSome, IsOk, IsOkUnless, MatchOption, OnErr, length};
+ghost use Rattle.std.specs.Prelude.{◌≡◌, ◌+◌, ◌++◌, ◌^◌, ◌≤◌, ◌<◌, IfOk, IfSome, IsOk, IsOkUnless, MatchOption, None, OnErr, length, nat_eq};
 ghost use Rattle.lit_base.specs.NextEnds.{NoEndAfter};
 ghost use Rattle.plan_store.specs.Tickets.{IsOf};
 ghost use Rattle.flow_scan.specs.Scanners.{started};
@@ -10,7 +10,6 @@ ghost use Rattle.scan_core.specs.Prefixes.{IsKept, MovesUpTo};
 ghost use Rattle.scan_core.specs.Streams.{StandsAt, MovesTo};
 ghost use Rattle.scan_core.specs.declared.fault.Fault.TheVariants.{OutOfMemory};
 ghost use Rattle.std.specs.Map.{lookup};
-ghost use Rattle.std.specs.Prelude.{nat_eq, None};
 
 use crate::fault::Fault;
 use crate::few::Few;

@@ -1,6 +1,7 @@
 //! Faults of a frame, and refused growths.
 ghost use Rattle.std.specs.Prelude.{◌≡◌};
 ghost use Rattle.scan_wire.specs.Faults.{cause_number, number_of};
+ghost use Rattle.scan_wire.specs.declared.fault.Fault.TheVariants.{OutOfMemory};
 
 use std::alloc::{AllocError, AllocFailed};
 use thiserror::Error;
@@ -60,9 +61,6 @@ impl Fault {
 }
 
 impl From<AllocError> for Fault {
-    ghost use Rattle.std.specs.Prelude.{◌≡◌};
-    ghost use Rattle.scan_wire.specs.declared.fault.Fault.TheVariants.{OutOfMemory};
-
     ghost from_gives = { λ _ e. e ≡ OutOfMemory };
 
     fn from(_error: AllocError) -> Fault {
@@ -71,9 +69,6 @@ impl From<AllocError> for Fault {
 }
 
 impl<T: Drop> From<AllocFailed<T>> for Fault {
-    ghost use Rattle.std.specs.Prelude.{◌≡◌};
-    ghost use Rattle.scan_wire.specs.declared.fault.Fault.TheVariants.{OutOfMemory};
-
     ghost from_gives = { λ _ e. e ≡ OutOfMemory };
 
     fn from(_error: AllocFailed<T>) -> Fault {
