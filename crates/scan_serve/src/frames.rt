@@ -10,7 +10,7 @@ use crate::answer::Answer;
 use crate::outbox::Outbox;
 use crate::stop::{Halt, Stop};
 use byte_io::ByteOut;
-use scan_wire::{Borrowed, Fault, next};
+use scan_wire::{Borrowed, Fault, first_request};
 use std::alloc::Global;
 
 /// The request at the start, where its frame is whole, and how many bytes that has.
@@ -21,7 +21,7 @@ fn request_at(alloc: Global, bytes: &[u8]) -> Result<Option<(Borrowed<'_>, usize
     ensures halt { IfErr result (OnHalt (λ cause. HasCause cause bytes.now) (BeginsWithFrame bytes.now)) }
     ensures fault { result ≢ Err (Halt.Stopped Stop.WriteFault) }
 {
-    match next(alloc, bytes) {
+    match first_request(alloc, bytes) {
         Ok(request) => Ok(request),
         Err(Fault::BadFrame { cause }) => Err(Halt::Bad(cause)),
         Err(Fault::OutOfMemory) => Err(Halt::Stopped(Stop::OutOfMemory)),

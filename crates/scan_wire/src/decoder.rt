@@ -6,7 +6,7 @@ ghost use Rattle.scan_wire.specs.Decoders.{IsFed, MeetsBadFrame};
 ghost use Rattle.scan_wire.specs.Reading.{GainsRequests};
 
 use crate::fault::{Cause, Fault};
-use crate::frames::next;
+use crate::frames::first_request;
 use crate::message::Request;
 use std::alloc::Global;
 use std::marker::Model;
@@ -139,7 +139,7 @@ fn read_request(
     ensures same { OnErr result (out.new.items ≡ out.old.items) }
 {
     let (_, rest) = bytes.split_at(place);
-    let Some((request, len)) = next(alloc, rest)? else {
+    let Some((request, len)) = first_request(alloc, rest)? else {
         return Ok(None);
     };
     out.push(request.into_request(alloc)?)?;

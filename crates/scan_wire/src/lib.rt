@@ -15,6 +15,6 @@ mod reading;
 pub use decoder::Decoder;
 pub use encoding::{append_hits, append_reply, encode_reply};
 pub use fault::{Cause, Fault};
-pub use frames::next;
+pub use frames::first_request;
 pub use laws::limits_law;
 pub use message::{Borrowed, MAX_HITS, MAX_PAYLOAD, Reply, Request};

@@ -5,7 +5,8 @@ ghost use Rattle.scan_wire.specs.Messages.{reply_parts};
 
 use lit_base::{Ends, Fold, Profile};
 use scan_wire::{
-    Borrowed, Cause, Decoder, Fault, Reply, Request, append_hits, append_reply, encode_reply, next,
+    Borrowed, Cause, Decoder, Fault, Reply, Request, append_hits, append_reply, encode_reply,
+    first_request,
 };
 use std::alloc::{AllocError, Global};
 use std::test::Fail;
@@ -37,7 +38,7 @@ struct Outcome {
 
 /// Why the prefix of the bytes is a bad frame, if it is one.
 fn cause_of(alloc: Global, bytes: &[u8]) -> Result<Option<Cause>, AllocError> {
-    match next(alloc, bytes) {
+    match first_request(alloc, bytes) {
         Err(Fault::BadFrame { cause }) => Ok(Some(cause)),
         Err(Fault::OutOfMemory) => Err(AllocError),
         Ok(_) => Ok(None),
@@ -46,7 +47,7 @@ fn cause_of(alloc: Global, bytes: &[u8]) -> Result<Option<Cause>, AllocError> {
 
 /// Whether the prefix of the bytes is no whole frame, and none that is bad.
 fn waits(alloc: Global, bytes: &[u8]) -> Result<bool, Fault> {
-    Ok(next(alloc, bytes)?.is_none())
+    Ok(first_request(alloc, bytes)?.is_none())
 }
 
 /// Feeds a piece, and says of a fault which it was.
@@ -102,7 +103,7 @@ fn empty_literals(alloc: Global, count: u16) -> Result<Vec<u8>, AllocError> {
 
 /// The fold and the profile of the Publish of `cat` at the start of the bytes, if it is one.
 fn publishes_cat(alloc: Global, bytes: &[u8]) -> Result<Option<(Fold, Profile)>, Fault> {
-    match next(alloc, bytes)? {
+    match first_request(alloc, bytes)? {
         Some(
             (
                 Borrowed::Publish {
@@ -129,7 +130,7 @@ fn known_by_flags(alloc: Global, flags: u8) -> Result<Option<(Fold, Profile)>, F
 
 /// The piece of the Feed of stream 7 at the start, if it is one.
 fn fed(alloc: Global, bytes: &[u8]) -> Result<Option<&[u8]>, Fault> {
-    match next(alloc, bytes)? {
+    match first_request(alloc, bytes)? {
         Some((Borrowed::Feed { stream: 7, bytes }, _)) => Ok(Some(bytes)),
         _ => Ok(None),
     }
@@ -157,7 +158,7 @@ fn fields_of(request: &Borrowed<'_>) -> (u8, u32, u64) {
 
 /// The kind, the stream and the number of the request at the start, if it is whole, and how many bytes its frame has.
 fn read(alloc: Global, bytes: &[u8]) -> Result<Option<((u8, u32, u64), usize)>, Fault> {
-    match next(alloc, bytes)? {
+    match first_request(alloc, bytes)? {
         Some((request, len)) => Ok(Some((fields_of(&request), len))),
         None => Ok(None),
     }

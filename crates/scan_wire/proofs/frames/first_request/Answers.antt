@@ -3,7 +3,7 @@ use Rattle.std.proofs.lemmas.Result.{err_from_is_err_and}
 use Rattle.scan_wire.specs.Causes.{BeginsWithList, TakesMemory}
 use Rattle.scan_wire.specs.Frames.{FrameParts}
 use Rattle.scan_wire.specs.Reading.{StartsWithFrame, parts_of}
-use Rattle.scan_wire.proofs.frames.next.Goals as goal
+use Rattle.scan_wire.proofs.frames.first_request.Goals as goal
 
 -- a list at the start, from its frame
 begins_list : (text : List ℕ) (f : FrameParts) → StartsWithFrame text f → TakesMemory f → BeginsWithList text
