@@ -18,7 +18,7 @@ SHAPES = {
     "line_pick": {"whole_lines.rt": {"LENGTHS", "SIZE"}},
     "lit_plan": {},
     "par_scan": {"parts.rt": {"MAX_WORKERS"}},
-    "scan_core": {"few.rt": {"ROOM"}, "limits.rt": {"MAX_PLANS", "MAX_STREAMS"}},
+    "scan_core": {"bounded_vec.rt": {"ROOM"}, "limits.rt": {"MAX_PLANS", "MAX_STREAMS"}},
     "shift_search": {
         "blocks.rt": {"GROUP", "GROUPS"},
         "bucket_checks.rt": {"CHECK_BITS"},

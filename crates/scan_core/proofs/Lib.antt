@@ -1,6 +1,6 @@
 pub mod BlockLemmas
 pub mod CarriedLemmas
-pub mod FewLemmas
+pub mod BoundedVecLemmas
 pub mod PrefixLemmas
 pub mod HitsExist
 pub mod RefusalLemmas

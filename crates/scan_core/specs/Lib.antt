@@ -5,7 +5,7 @@ pub mod Steps
 pub mod Together
 pub mod Worlds
 pub mod Sessions
-pub mod Fews
+pub mod BoundedVecs
 pub mod Lends
 pub mod Streams
 pub mod Answers

@@ -3,8 +3,8 @@
 #![tactic(auto)]
 
 mod answering;
+mod bounded_vec;
 mod fault;
-mod few;
 mod limits;
 mod publishing;
 mod refusal;

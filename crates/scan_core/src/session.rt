@@ -13,8 +13,8 @@ ghost use Rattle.scan_core.specs.declared.fault.Fault.TheVariants.{OutOfMemory};
 ghost use Rattle.scan_core.specs.declared.refusal.Refusal.TheVariants.{NoSuchPlan};
 
 use crate::answering::push_answer;
+use crate::bounded_vec::BoundedVec;
 use crate::fault::Fault;
-use crate::few::Few;
 use crate::limits::MAX_STREAMS;
 use crate::publishing::planned;
 use crate::refusal::{Refusal, refusal_of_literals};
@@ -33,8 +33,8 @@ use std::sync::Wait;
 #[derive(Drop)]
 pub struct Session<'s> {
     store: &'s PlanStore,
-    published_plans: Few<Ticket>,
-    streams: Few<Stream<'s>>,
+    published_plans: BoundedVec<Ticket>,
+    streams: BoundedVec<Stream<'s>>,
     finder: SessionFinder,
 }
 
@@ -56,8 +56,8 @@ impl<'s> Session<'s> {
     {
         Session {
             store,
-            published_plans: Few::new(),
-            streams: Few::new(),
+            published_plans: BoundedVec::new(),
+            streams: BoundedVec::new(),
             finder: SessionFinder::new(),
         }
     }

@@ -11,8 +11,8 @@ ghost use Rattle.scan_core.specs.Streams.{StandsAt, MovesTo};
 ghost use Rattle.scan_core.specs.declared.fault.Fault.TheVariants.{OutOfMemory};
 ghost use Rattle.std.specs.Map.{lookup};
 
+use crate::bounded_vec::BoundedVec;
 use crate::fault::Fault;
-use crate::few::Few;
 use crate::session_finder::SessionFinder;
 use flow_scan::{Compiled, Fault as ScanFault, Hit, Scanner};
 use plan_store::{PlanStore, Ticket};
@@ -161,7 +161,7 @@ impl<'s> Stream<'s> {
 }
 
 /// The place of the first stream of a number.
-pub(crate) fn find_stream(streams: &Few<Stream<'_>>, number: u32) -> Option<usize>
+pub(crate) fn find_stream(streams: &BoundedVec<Stream<'_>>, number: u32) -> Option<usize>
     ensures { MatchOption result (lookup (nat_eq number) streams.now ≡ None) (StandsAt number streams.now) }
 {
     let mut place = 0;

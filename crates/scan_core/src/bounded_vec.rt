@@ -1,4 +1,4 @@
-//! Short lists that take no memory.
+//! Lists of bounded length that take no memory.
 ghost use Rattle.std.specs.Prelude.{◌≡◌, ◌<◌, ◌≤◌, [], ◌∷◌, ◌++◌, IsSome, Some, length, remove, slice_index_or, slice_set};
 ghost use Rattle.std.specs.Borrow.{sem};
 ghost use Rattle.std.specs.Option.Follows.{option_follows_value};
@@ -6,20 +6,20 @@ ghost use Rattle.std.specs.Option.Follows.{option_follows_value};
 use arrayvec::ArrayVec;
 use std::marker::Model;
 
-/// Elements that a short list has room for.
+/// The number of elements that a list has room for.
 pub(crate) const ROOM: usize = 64;
 
 /// A list of at most `ROOM` elements, in place.
 #[derive(Drop)]
-pub(crate) struct Few<T> {
+pub(crate) struct BoundedVec<T> {
     items: ArrayVec<Option<T>, ROOM>,
 }
 
 /// A contract sees the list.
-impl<T> Model for Few<T> {
+impl<T> Model for BoundedVec<T> {
     ghost use Rattle.std.specs.Prelude.{◌≡◌, List, map, Some};
     ghost use Rattle.std.specs.Coded.{coded_list};
-    ghost use Rattle.scan_core.specs.Fews.{somes};
+    ghost use Rattle.scan_core.specs.BoundedVecs.{somes};
 
     ghost Value = { List T };
 
@@ -30,14 +30,14 @@ impl<T> Model for Few<T> {
     ghost invariant = { λ f. f.items.items ≡ map Some (somes f.items.items) };
 }
 
-impl<T> Few<T> {
+impl<T> BoundedVec<T> {
     ghost use Rattle.scan_core.specs.Lends.{lends_at};
 
     /// A list of no elements.
-    pub(crate) fn new() -> Few<T>
+    pub(crate) fn new() -> BoundedVec<T>
         ensures { result ≡ [] }
     {
-        Few {
+        BoundedVec {
             items: ArrayVec::new(),
         }
     }
@@ -86,7 +86,7 @@ fn element_of<T>(item: &mut Option<T>) -> &mut T
     }
 }
 
-impl<T: Drop> Few<T> {
+impl<T: Drop> BoundedVec<T> {
     /// Adds an element at the end.
     pub(crate) fn push(&mut self, item: T)
         requires { length self.old < ROOM }

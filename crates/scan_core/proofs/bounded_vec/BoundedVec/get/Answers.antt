@@ -1,7 +1,7 @@
 use Rattle.std.proofs.Common.{◌≡◌, length, get_or, map, Some, None, sym, ap, ◌∙◌, arith}
-use Rattle.scan_core.specs.Fews.{somes}
-use Rattle.scan_core.proofs.FewLemmas.{some_at}
-use Rattle.scan_core.proofs.few.Few.get.Goals as goal
+use Rattle.scan_core.specs.BoundedVecs.{somes}
+use Rattle.scan_core.proofs.BoundedVecLemmas.{some_at}
+use Rattle.scan_core.proofs.bounded_vec.BoundedVec.get.Goals as goal
 
 pub unreachable-requires : goal.unreachable-requires
 unreachable-requires g c =

@@ -1,8 +1,8 @@
 use Rattle.std.proofs.Common.{[], ◌∷◌, ◌++◌, Some, sym, ap, ◌∙◌}
 use Rattle.std.proofs.lemmas.List.{map-append}
-use Rattle.scan_core.specs.Fews.{somes}
-use Rattle.scan_core.proofs.FewLemmas.{all_somes, somes_all}
-use Rattle.scan_core.proofs.few.Few.push.Goals as goal
+use Rattle.scan_core.specs.BoundedVecs.{somes}
+use Rattle.scan_core.proofs.BoundedVecLemmas.{all_somes, somes_all}
+use Rattle.scan_core.proofs.bounded_vec.BoundedVec.push.Goals as goal
 
 pub invariant_of-self : goal.invariant_of-self
 invariant_of-self g c =

@@ -4,7 +4,7 @@ use Rattle.std.specs.Prelude.{IsSome}
 use Rattle.std.specs.List.{remove}
 use Rattle.std.proofs.lemmas.List.{drop-map, map-append, map-set, take-map}
 use Rattle.std.proofs.lemmas.Option.{none-some, same_Some}
-use Rattle.scan_core.specs.Fews.{somes}
+use Rattle.scan_core.specs.BoundedVecs.{somes}
 
 -- the elements of a list that has all of them
 pub somes-map : {T : Type 0} (xs : List T) → somes (map Some xs) ≡ xs

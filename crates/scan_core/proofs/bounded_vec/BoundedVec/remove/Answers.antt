@@ -1,8 +1,8 @@
 use Rattle.std.proofs.Common.{Some, ap, ◌∙◌}
 use Rattle.std.specs.List.{remove}
-use Rattle.scan_core.specs.Fews.{somes}
-use Rattle.scan_core.proofs.FewLemmas.{all_somes, remove-map, somes_all}
-use Rattle.scan_core.proofs.few.Few.remove.Goals as goal
+use Rattle.scan_core.specs.BoundedVecs.{somes}
+use Rattle.scan_core.proofs.BoundedVecLemmas.{all_somes, remove-map, somes_all}
+use Rattle.scan_core.proofs.bounded_vec.BoundedVec.remove.Goals as goal
 
 pub invariant_of-self : goal.invariant_of-self
 invariant_of-self g c =

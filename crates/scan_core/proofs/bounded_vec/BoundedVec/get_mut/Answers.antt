@@ -1,8 +1,8 @@
 use Rattle.std.proofs.Common.{◌≡◌, ◌<◌, Option, length, get_or, map, set, Some, refl, sym, ap, ◌∙◌, subst, arith}
 use Rattle.std.specs.Prelude.{IsSome}
-use Rattle.scan_core.specs.Fews.{somes}
-use Rattle.scan_core.proofs.FewLemmas.{all_somes, element_at, is_some_at, set_some, somes_all}
-use Rattle.scan_core.proofs.few.Few.get_mut.Goals as goal
+use Rattle.scan_core.specs.BoundedVecs.{somes}
+use Rattle.scan_core.proofs.BoundedVecLemmas.{all_somes, element_at, is_some_at, set_some, somes_all}
+use Rattle.scan_core.proofs.bounded_vec.BoundedVec.get_mut.Goals as goal
 
 pub invariant_of-self-lent : goal.invariant_of-self-lent
 invariant_of-self-lent g c w =
