@@ -7,7 +7,7 @@ ghost use Rattle.flow_scan.specs.Tails.{StopsIn};
 ghost use Rattle.scan_core.specs.declared.fault.Fault.TheVariants.{OutOfMemory};
 
 use crate::fault::Fault;
-use crate::tuning::MAX_FED_TO_OTHERS;
+use crate::tuning::MOST_FED_TO_OTHERS;
 use flow_scan::{EndFinder, Hit, HitSearch, LEAST_WITH_FINDER, PrefilterSearch, Scanner};
 use plan_store::{PlanStore, Ticket};
 use std::alloc::Global;
@@ -116,7 +116,7 @@ impl SessionFinder {
         requires ticket { IsOf store.now ticket.now }
         ensures { IfSome self.new (IsOf store.now) }
     {
-        if self.own.is_none() || self.fed_to_others >= MAX_FED_TO_OTHERS {
+        if self.own.is_none() || self.fed_to_others >= MOST_FED_TO_OTHERS {
             self.own = TicketFinder::by_plan_of(alloc, store, ticket);
             self.fed_to_others = 0;
         }
