@@ -3,11 +3,11 @@
 #![tactic(auto)]
 
 mod advice;
+mod command;
 mod help;
 mod marked_words;
 mod operand_files;
 mod options;
-mod program;
 mod request;
 mod standard_input;
 mod words;
@@ -18,5 +18,5 @@ use std::process::ExitCode;
 fn main(rt: HostRuntime) -> ExitCode {
     let mut out = ToWrite::new(rt.stdout());
     let mut err = ToWrite::new(rt.stderr());
-    ExitCode::from(program::serve(&rt, rt.stdin(), &mut out, &mut err).code())
+    ExitCode::from(command::serve(&rt, rt.stdin(), &mut out, &mut err).code())
 }

@@ -1,7 +1,7 @@
 -- The message was written, or a prefix of it where the write failed.
 use Rattle.grep_run.specs.Writers.{writer}
 use Rattle.litgrep.proofs.SayLemmas.{says-written}
-use Rattle.litgrep.proofs.program.refuse.Goals as goal
+use Rattle.litgrep.proofs.command.refuse.Goals as goal
 
 pub returns-clause-said : goal.returns-clause-said
 returns-clause-said g c =

@@ -1,4 +1,4 @@
-//! The program: words in, a status out.
+//! What a command does.
 ghost use Rattle.std.specs.Prelude.{◌≡◌, ◌≢◌, ◌||◌, OnErr, OnOk};
 ghost use Rattle.byte_io.specs.Transfers.{Says};
 ghost use Rattle.grep_run.specs.Messages.{out_of_memory};
