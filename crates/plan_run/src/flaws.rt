@@ -6,7 +6,7 @@ ghost use Rattle.plan_run.specs.Answers.{where_wrong};
 ghost use Rattle.plan_run.specs.Messages.{wrong_byte, wrong_field, wrong_input, wrong_list};
 ghost use Rattle.plan_run.specs.Running.{Reports, ReportsStop, is_write_fault};
 
-use crate::judging::not_certified;
+use crate::checking::not_certified;
 use crate::reporting::report;
 use crate::status::Status;
 use byte_io::ByteOut;

@@ -2,13 +2,13 @@
 //! the files and makes plan files.
 #![tactic(auto)]
 
-mod answering;
+mod checking;
 mod explaining;
 mod flaws;
-mod judging;
 mod listing;
 mod making;
 mod message;
+mod planning;
 mod reporting;
 mod request;
 mod running;

@@ -4,11 +4,11 @@ ghost use Rattle.byte_io.specs.Devices.{IfKnown};
 ghost use Rattle.byte_io.specs.Sources.{AreShort};
 ghost use Rattle.plan_run.specs.Running.{Answers, Ends, is_write_fault};
 
-use crate::answering::{answer_check, answer_plan};
+use crate::checking::{answer_check, answer_check_plan};
 use crate::explaining::{answer_explain, answer_explain_certificate, answer_explain_plan};
-use crate::judging::answer_check_plan;
 use crate::making::{answer_migrate, answer_pack};
 use crate::message::say;
+use crate::planning::answer_plan;
 use crate::request::Request;
 use crate::scanning::answer_scan;
 use crate::status::Status;

@@ -2,7 +2,7 @@
 use Rattle.lit_plan.specs.Plans.{Plan}
 use Rattle.plan_run.specs.Answers.{Answer, IsVerdict}
 use Rattle.plan_run.proofs.PlanAtLemmas.{plan-at-none, plan-at-one}
-use Rattle.plan_run.proofs.judging.check_plan.Goals as goal
+use Rattle.plan_run.proofs.checking.check_plan.Goals as goal
 
 -- the verdict on a plan
 abbrev IsJudged : Plan → Answer → Type 0

@@ -5,7 +5,7 @@ use Rattle.lit_cert.specs.Certificates.{CertificateParts}
 use Rattle.lit_cert.specs.declared.fault.Fault.{Fault}
 use Rattle.plan_run.specs.Answers.{IsVerdict, bad_line}
 use Rattle.plan_run.proofs.AnswerLemmas.{bad-line, judged, unread}
-use Rattle.plan_run.proofs.judging.judge.Goals as goal
+use Rattle.plan_run.proofs.checking.judge.Goals as goal
 
 pub returns-in-Ok-clause-answer : goal.returns-in-Ok-clause-answer
 returns-in-Ok-clause-answer g c = λ content e short.

@@ -3,7 +3,7 @@ use Rattle.std.proofs.Common.{rules}
 use Rattle.plan_run.specs.Answers.{Fails, Holds, IsVerdict}
 use Rattle.plan_run.specs.declared.status.Status.TheVariants.{Done, NotCertified}
 use Rattle.plan_run.proofs.AnswerLemmas.{reports-text}
-use Rattle.plan_run.proofs.judging.verdict.Goals as goal
+use Rattle.plan_run.proofs.checking.verdict.Goals as goal
 
 pub returns-in_ok-text-in-Ok-clause-answer : goal.returns-in_ok-text-in-Ok-clause-answer
 returns-in_ok-text-in-Ok-clause-answer g c =

@@ -3,7 +3,7 @@ use Rattle.byte_io.specs.Sources.{Named}
 use Rattle.byte_io.proofs.OpenerLemmas.{opened}
 use Rattle.plan_run.specs.Answers.{IsCheckAnswer}
 use Rattle.plan_run.specs.Running.{Reports}
-use Rattle.plan_run.proofs.judging.check_list.Goals as goal
+use Rattle.plan_run.proofs.checking.check_list.Goals as goal
 
 pub returns-in-Ok-clause-answer : goal.returns-in-Ok-clause-answer
 returns-in-Ok-clause-answer g c =

@@ -3,7 +3,7 @@ use Rattle.std.proofs.Common.{refl}
 use Rattle.plan_run.specs.Answers.{IsPlanAnswer, Planned}
 use Rattle.plan_run.specs.declared.status.Status.TheVariants.{Done}
 use Rattle.plan_run.proofs.AnswerLemmas.{shaped, reports-text}
-use Rattle.plan_run.proofs.answering.plan_list.Goals as goal
+use Rattle.plan_run.proofs.planning.plan_list.Goals as goal
 
 pub report_certificate-requires : goal.report_certificate-requires
 report_certificate-requires g c = record { shape = shaped c.args.list.now c.in-Ok.certificate c.in-Ok.ensures.certified c.normal_law.ensures.few }

@@ -3,21 +3,41 @@ ghost use Rattle.std.specs.Prelude.{◌≡◌, ◌||◌, ◌∷◌, [], IfOk, So
 ghost use Rattle.byte_io.specs.Devices.{IfKnown};
 ghost use Rattle.byte_io.specs.Sources.{AreShort, Content, IsShort, Named, after, ask_of, coming_of, taken_by};
 ghost use Rattle.plan_pack.specs.Asking.{Asks};
-ghost use Rattle.plan_run.specs.Answers.{AnswersCheckPlan, IsCheckAnswer, IsPlanAnswerAt, IsVerdict};
+ghost use Rattle.plan_run.specs.Answers.{AnswersCheck, AnswersCheckPlan, IsCheckAnswer, IsPlanAnswerAt, IsVerdict, check_asks};
 ghost use Rattle.plan_run.specs.Messages.{not_certified, optimal};
 ghost use Rattle.plan_run.specs.Running.{Reports, is_write_fault};
 
 use crate::reporting::report;
+use crate::request::CheckRequest;
 use crate::status::Status;
 use byte_io::{ByteIn, ByteOut, Files};
 use lit_base::LitList;
 use lit_cert::{Certificate, Fault, Reason, check, read_cert};
 use lit_plan::Compiled;
-use plan_pack::{Refusal, Stop, plans_of};
+use plan_pack::{Refusal, Stop, list_of, plans_of};
 use std::alloc::{AllocError, Global};
 
+/// Says whether a file's certificate shows that no grouping of a file's patterns is cheaper.
+pub fn answer_check<'a, F: Files, W: ByteOut>(
+    alloc: Global,
+    request: &'a CheckRequest,
+    files: &mut F,
+    out: &mut W,
+) -> Result<Status, Stop<'a>>
+    ensures answer { IfKnown (F.sources files.old) (F.sources files.new) (λ s left. AreShort s
+        → Asks result (check_asks request.now.reading (string_bytes request.now.file) (string_bytes request.now.certificate) s) s left
+        × Reports (AnswersCheck request.now.reading (string_bytes request.now.file) (string_bytes request.now.certificate) s)
+        result (W.written out.old) (W.written out.new)) }
+    ensures flag { W.has_failed out.new ≡ (W.has_failed out.old || is_write_fault result) }
+{
+    match list_of(alloc, request.reading, request.file.as_str(), files) {
+        Ok(list) => check_list(alloc, &list, request.certificate.as_str(), files, out),
+        Err(stop) => Err(stop),
+    }
+}
+
 /// Says whether the certificate of a file shows that no grouping of the list is cheaper.
-pub fn check_list<'a, F: Files, W: ByteOut>(
+fn check_list<'a, F: Files, W: ByteOut>(
     alloc: Global,
     list: &LitList,
     name: &'a str,
@@ -57,7 +77,7 @@ fn judge<'a, I: ByteIn, W: ByteOut>(
 }
 
 /// Writes the verdict on a certificate.
-pub fn verdict<'a, W: ByteOut>(
+fn verdict<'a, W: ByteOut>(
     alloc: Global,
     list: &LitList,
     certificate: &Certificate,

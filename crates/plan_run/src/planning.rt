@@ -1,14 +1,13 @@
-//! Answering each request.
+//! Planning the patterns of a file.
 ghost use Rattle.std.specs.Prelude.{◌≡◌, ◌||◌, ◌∷◌, [], string_bytes};
 ghost use Rattle.byte_io.specs.Devices.{IfKnown};
 ghost use Rattle.byte_io.specs.Sources.{AreShort, ask_of};
 ghost use Rattle.plan_pack.specs.Asking.{Asks};
-ghost use Rattle.plan_run.specs.Answers.{AnswersCheck, AnswersPlan, IsPlanAnswer, check_asks};
+ghost use Rattle.plan_run.specs.Answers.{AnswersPlan, IsPlanAnswer};
 ghost use Rattle.plan_run.specs.Running.{Reports, is_write_fault};
 
-use crate::judging::check_list;
 use crate::reporting::report_certificate;
-use crate::request::{CheckRequest, PlanRequest};
+use crate::request::PlanRequest;
 use crate::status::Status;
 use byte_io::{ByteOut, Files};
 use lit_base::{LitList, Profile};
@@ -30,25 +29,6 @@ pub fn answer_plan<'a, F: Files, W: ByteOut>(
 {
     match list_of(alloc, request.reading, request.file.as_str(), files) {
         Ok(list) => plan_list(alloc, request.profile, &list, out),
-        Err(stop) => Err(stop),
-    }
-}
-
-/// Says whether a file's certificate shows that no grouping of a file's patterns is cheaper.
-pub fn answer_check<'a, F: Files, W: ByteOut>(
-    alloc: Global,
-    request: &'a CheckRequest,
-    files: &mut F,
-    out: &mut W,
-) -> Result<Status, Stop<'a>>
-    ensures answer { IfKnown (F.sources files.old) (F.sources files.new) (λ s left. AreShort s
-        → Asks result (check_asks request.now.reading (string_bytes request.now.file) (string_bytes request.now.certificate) s) s left
-        × Reports (AnswersCheck request.now.reading (string_bytes request.now.file) (string_bytes request.now.certificate) s)
-        result (W.written out.old) (W.written out.new)) }
-    ensures flag { W.has_failed out.new ≡ (W.has_failed out.old || is_write_fault result) }
-{
-    match list_of(alloc, request.reading, request.file.as_str(), files) {
-        Ok(list) => check_list(alloc, &list, request.certificate.as_str(), files, out),
         Err(stop) => Err(stop),
     }
 }

@@ -7,7 +7,7 @@ use Rattle.lit_base.specs.Literals.{Literals}
 use Rattle.plan_pack.specs.Taken.{TakesList}
 use Rattle.plan_pack.specs.declared.stop.Stop.{Stop}
 use Rattle.plan_run.proofs.AnswerLemmas.{check-had, check-stopped}
-use Rattle.plan_run.proofs.answering.answer_check.Goals as goal
+use Rattle.plan_run.proofs.checking.answer_check.Goals as goal
 
 pub returns-in-Ok-clause-answer : goal.returns-in-Ok-clause-answer
 returns-in-Ok-clause-answer g c =

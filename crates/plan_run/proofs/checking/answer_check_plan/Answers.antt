@@ -2,7 +2,7 @@
 use Rattle.lit_plan.specs.Plans.{Plan}
 use Rattle.plan_run.specs.Answers.{Answer, IsVerdict, refuses}
 use Rattle.plan_run.proofs.AnswerLemmas.{plan-at-had, plan-at-stopped}
-use Rattle.plan_run.proofs.judging.answer_check_plan.Goals as goal
+use Rattle.plan_run.proofs.checking.answer_check_plan.Goals as goal
 
 -- the verdict on a plan
 abbrev IsJudged : Plan → Answer → Type 0
