@@ -120,7 +120,7 @@ pub extern "C" fn fiolargu_plan_save(
 }
 
 /// Writes a plan file with this plan to the start of a buffer, if it has room. `len` gets the length of the file, also
-/// if the buffer is too small.
+/// if the buffer is too small; for want of memory it stays as it was.
 fn save(alloc: Global, plan: &Compiled, buffer: &mut [u8], len: &mut usize) -> i32
     ensures saved { result ≡ OK → take len.new buffer.new ≡ spelling Two (plan.now ∷ []) }
     ensures file { result ≡ OK → IsFile (take len.new buffer.new) (plan.now ∷ []) }
