@@ -29,8 +29,8 @@ pub fn requested(alloc: Global, words: &[String]) -> Result<Request, Fault> {
 /// The request in clap's matches of the subcommand of a name, with each argument under its name as id.
 ///
 /// # Errors
-/// - `Usage` where the command or the number of workers is unknown, which clap does not let through; where there are more
-///   than 64 files of patterns; and where the number of a plan is no number.
+/// - `Usage` where the command is unknown or the number of workers is out of range, which clap does not let through;
+///   where there are more than 64 files of patterns; and where the number of a plan is no number.
 /// - `OutOfMemory` where a growth was refused.
 pub fn request_of(alloc: Global, name: &str, found: &ArgMatches<'_>) -> Result<Request, Fault>
     ensures { IfOk result (IsRequestOf name.now found.now) }

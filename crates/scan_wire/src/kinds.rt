@@ -2,40 +2,40 @@
 
 // Requests.
 
-/// A Publish.
+/// The kind of a Publish.
 pub(crate) const PUBLISH_KIND: u8 = 0x01;
 
-/// An Open.
+/// The kind of an Open.
 pub(crate) const OPEN_KIND: u8 = 0x02;
 
-/// A Feed.
+/// The kind of a Feed.
 pub(crate) const FEED_KIND: u8 = 0x03;
 
-/// A Close.
+/// The kind of a Close.
 pub(crate) const CLOSE_KIND: u8 = 0x04;
 
-/// A ShowPlan.
+/// The kind of a ShowPlan.
 pub(crate) const SHOW_PLAN_KIND: u8 = 0x05;
 
 // Replies.
 
-/// A Published.
+/// The kind of a Published.
 pub(crate) const PUBLISHED_KIND: u8 = 0x11;
 
-/// An Opened.
+/// The kind of an Opened.
 pub(crate) const OPENED_KIND: u8 = 0x12;
 
-/// A Hits.
+/// The kind of a Hits.
 pub(crate) const HITS_KIND: u8 = 0x13;
 
-/// A Fed.
+/// The kind of a Fed.
 pub(crate) const FED_KIND: u8 = 0x14;
 
-/// A Closed.
+/// The kind of a Closed.
 pub(crate) const CLOSED_KIND: u8 = 0x15;
 
-/// A Plan.
+/// The kind of a Plan.
 pub(crate) const PLAN_KIND: u8 = 0x16;
 
-/// A Refused.
+/// The kind of a Refused.
 pub(crate) const REFUSED_KIND: u8 = 0x17;
