@@ -39,10 +39,10 @@ fn plans_of(alloc: Global, file: &[u8]) -> Result<Vec<Compiled>, (i32, usize)>
 ///
 /// # Errors
 /// - `BAD_PLAN_FILE`, where the bytes are no plan file, or a certificate in it does not hold. Then `fault_at` is the
-/// offset of the first fault; otherwise it is 0.
+///   offset of the first fault; otherwise it is 0.
 /// - `NO_SUCH_PLAN`, where the file has at most `which` plans.
 /// - `OUT_OF_MEMORY`, where a growth was refused. It comes only if the bytes begin with the head of a file that has
-/// plans.
+///   plans.
 #[unsafe(no_mangle)]
 pub extern "C" fn fiolargu_plan_load(
     alloc: Global,
@@ -142,9 +142,9 @@ fn save(alloc: Global, plan: &Compiled, buffer: &mut [u8], len: &mut usize) -> i
 ///
 /// # Errors
 /// - `BAD_PLAN_FILE`, where the bytes are no plan file, or a certificate in it does not hold. Then `fault_at` is the
-/// offset of the first fault; otherwise it is 0.
+///   offset of the first fault; otherwise it is 0.
 /// - `OUT_OF_MEMORY`, where a growth was refused. It comes only if the bytes begin with the head of a file that has
-/// plans.
+///   plans.
 #[unsafe(no_mangle)]
 pub extern "C" fn fiolargu_check(
     alloc: Global,

@@ -27,7 +27,7 @@ use std::alloc::Global;
 /// - `OUT_OF_RANGE`, where a flag is unknown.
 /// - `SMALL_BUFFER`, where `literal_of` has some room, but not for all patterns.
 /// - `TOO_MANY_PATTERNS`, `LITERAL_TOO_LONG` or `LIST_TOO_LARGE`, whichever the patterns in order give first. After
-/// `LITERAL_TOO_LONG`, `fault_at` is the position of the pattern; otherwise it is 0.
+///   `LITERAL_TOO_LONG`, `fault_at` is the position of the pattern; otherwise it is 0.
 /// - `NO_LITERALS`, where no pattern has a byte.
 /// - `OUT_OF_MEMORY`, where a growth was refused. Only then may `literal_of` have changed.
 #[unsafe(no_mangle)]

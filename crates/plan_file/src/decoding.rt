@@ -113,7 +113,7 @@ fn all_plans(alloc: Global, bytes: &[u8]) -> Result<Vec<Compiled>, Stop>
 /// # Errors
 /// - `BadPlanFile` with the first cause in reading order, and the place of its field.
 /// - `OutOfMemory`, where a growth was refused. It comes only if the bytes begin with the head of a file that has
-/// plans. A number in the file costs no memory before its bytes are there.
+///   plans. A number in the file costs no memory before its bytes are there.
 pub fn decode(alloc: Global, bytes: &[u8]) -> Result<Vec<Compiled>, Fault>
     // A text that is read is a file of the plans returned.
     ensures found { IfOk result (λ plans. IsFile bytes.now plans.items) }

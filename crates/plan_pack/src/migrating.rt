@@ -24,7 +24,7 @@ use std::alloc::{AllocError, Global};
 ///
 /// # Errors
 /// - `Refused` with the fault of the first file; else with the other's name, where it cannot be made or not be written
-/// to its end.
+///   to its end.
 /// - `OutOfMemory`, where a growth was refused, once the first file is open.
 ///
 /// With them comes the file that was made, if one was. It holds a prefix of the plan file, and not all of it; after

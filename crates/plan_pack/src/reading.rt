@@ -20,8 +20,8 @@ use std::alloc::Global;
 ///
 /// # Errors
 /// - `Refused` with the file's name, where it cannot be opened or read; with the first line that should be hexadecimal
-/// and is not; or with the fault of the first pattern that is refused. A file longer than its notation allows is
-/// refused as `ListTooLarge`.
+///   and is not; or with the fault of the first pattern that is refused. A file longer than its notation allows is
+///   refused as `ListTooLarge`.
 /// - `OutOfMemory`, where a growth was refused, once the file is open.
 pub fn list_of<'a, F: Files>(
     alloc: Global,
@@ -113,7 +113,7 @@ fn listed(alloc: Global, reading: Reading, text: &[u8]) -> Result<(LitList, Norm
 ///
 /// # Errors
 /// - `Refused` with the file's name, where it cannot be opened or read; or with the first wrong field, where it is no
-/// plan file.
+///   plan file.
 /// - `OutOfMemory`, where a growth was refused, once the file is open.
 pub fn plans_of<'a, F: Files>(
     alloc: Global,

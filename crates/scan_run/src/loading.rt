@@ -21,7 +21,7 @@ use std::sync::Wait;
 /// - `ReadFault`, where a read failed, and `BadPlanFile`, where the file is none: no ticket is gained.
 /// - `OutOfMemory`, where a growth was refused: the plans published so far stay.
 /// - `WriteFault`, where a line or a message could not be written: the plans published so far stay, and no plan follows
-/// the one of that line.
+///   the one of that line.
 ///
 /// All but the last are reported on `err`, by the name of the file.
 pub fn load_tickets<R: Wait, I: ByteIn, E: ByteOut>(

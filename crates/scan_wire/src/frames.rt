@@ -165,7 +165,7 @@ fn request_of(alloc: Global, frame: Frame<'_>) -> Result<Borrowed<'_>, Fault>
 ///
 /// # Errors
 /// - `BadFrame` with its first cause, where a bad frame stands at the start. A length out of range is reported once its
-/// four bytes are there, the other causes once the frame is whole.
+///   four bytes are there, the other causes once the frame is whole.
 /// - `OutOfMemory`, where a growth was refused: only for a whole Publish that announces literals.
 pub fn first_request(alloc: Global, bytes: &[u8]) -> Result<Option<(Borrowed<'_>, usize)>, Fault>
     ensures found { IfOk result (λ request. MatchOption request (Waits bytes.now)
