@@ -77,7 +77,7 @@ impl StreamHandle {
         }
     }
 
-    /// Takes out what the handle has, and leaves it null.
+    /// Takes the stream out of the handle, and leaves it null.
     pub fn take(&mut self, alloc: Global) -> Option<Box<OpenStream>>
         ensures taken { MatchOption result (self.old.held ≡ None) (λ b. self.old.held ≡ Some b.value) }
         ensures null { self.new.held ≡ None }
@@ -85,7 +85,7 @@ impl StreamHandle {
         replace(self, StreamHandle::empty(alloc)).into_box()
     }
 
-    /// Puts something into the handle. What it had before is freed.
+    /// Puts a stream into the handle. The stream that it had before is freed.
     pub fn put(&mut self, held: Box<OpenStream>)
         ensures { self.new.held ≡ Some held.value }
     {

@@ -19,7 +19,7 @@ pub record PlanIn (file : List ℕ) (which : ℕ) (plan : Option Plan) : Type 0 
   pub within : which < length plans
   pub plan_is : plan ≡ slice_get plans which
 
--- the first fault of what is no plan file is at this place
+-- the first fault of bytes that are no plan file is at this place
 pub record FaultIn (file : List ℕ) (place : ℕ) : Type 0 where
   pub cause : Cause
   pub first : IsFirstFault file place cause

@@ -6,7 +6,7 @@ ghost use Rattle.lit_base.specs.declared.fault.Fault.TheVariants.{ListTooLarge, 
 
 use lit_base::Fault;
 
-/// The call did what it says.
+/// The call succeeded.
 pub(crate) const OK: i32 = 0;
 
 /// An allocation was refused.

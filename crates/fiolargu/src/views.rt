@@ -1,4 +1,4 @@
-//! What crosses between a C program and the library beside handles and numbers.
+//! The types that C programs and the library share, besides handles and numbers.
 
 /// Bytes of the caller.
 #[repr(C)]
@@ -11,7 +11,7 @@ pub struct Bytes<'a> {
 #[repr(C)]
 #[derive(Clone, Copy, Drop)]
 pub struct FoundHit {
-    /// Where it ends: so many bytes of the text come before.
+    /// Where it ends: the number of bytes of the text up to its end.
     pub end: u64,
     /// Its number in the plan.
     pub literal: u32,

@@ -44,9 +44,9 @@ pub record AreSearched (a : Answer) (found : Found) (out_old out_new err_old err
   pub selected : found.is_selected ≡ a.has_selected
   pub error : found.is_error ≡ a.has_error
 
--- it stopped: all of the inputs before the last one that was asked for is written, of that one prefixes, and nothing
--- more is asked for; where none was asked for, nothing is written. Where the output failed, or no message did, there is
--- no message on the last one. Under -s the last one could be opened
+-- Searching stopped at the last input that was asked for, if any was. The inputs before it are written in full, and of
+-- the last input a prefix of its block and a prefix of its message. If the output failed, or no message did, there is
+-- no message on the last input. With -s the last input could be opened.
 pub record StopsAt (o : GrepOptions) (test : List ℕ → Bool) (inputs : List Input) (s left : Sources) (out_old out_new err_old err_new : Writer) : Type 0 where
   pub done : List Input
   pub last : List Input

@@ -37,8 +37,8 @@ pub fn serve<R: Env + Files + AllocGlobal, S: Read + Copy + Drop, W: ByteOut, E:
     }
 }
 
-/// The files of the system that a run may read. One that its lines go to is missing, and standard input
-/// cannot be read if it is one: it would grow as it is read, without end.
+/// The files of the system that a run may read. The file that its lines go to is missing, and standard input cannot be
+/// read if it is this file: the file would grow as it is read, without end.
 fn files_for<'a, R: Files, S: Read + Copy + Drop>(
     rt: &'a R,
     standard: S,

@@ -1,4 +1,4 @@
-//! The words of a command line of which one is not UTF-8.
+//! The words of a command line if some word is not UTF-8.
 use std::alloc::{AllocError, Global};
 use std::env::FillError;
 use std::rt::Env;

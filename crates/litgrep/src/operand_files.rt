@@ -1,11 +1,12 @@
 //! The files that a run opens.
 use byte_io::{Missing, Opener};
 
-/// The files of an opener, without those whose names are not UTF-8: they have no name to open them by, and
-/// messages show an escaped one. A file with just that text as its name is missing beside them.
+/// The files of an opener, without the files whose names are not UTF-8: they have no name to open them by, and messages
+/// show an escaped name. A file whose name is equal to an escaped name is missing too.
 #[derive(Drop)]
 pub struct OperandFiles<'a, O: Drop> {
     pub files: O,
+    /// The escaped names.
     pub unnamed: &'a [String],
 }
 

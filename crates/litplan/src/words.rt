@@ -326,7 +326,7 @@ fn file_alone<'a>(alloc: Global) -> Result<Arg<'a>, AllocError> {
         .required_unless_present("certificate")
 }
 
-/// A plan file of which a plan is taken.
+/// A plan file, one of whose plans is taken.
 fn plan_in_file<'a>(alloc: Global) -> Arg<'a> {
     Arg::new(alloc, "plan")
         .long("plan")

@@ -153,7 +153,7 @@ pub fn fault_law()
         IsFirstFault text place cause → cause ≢ Cause.Short → BeginsFile text → ⊥ }
 {}
 
-/// The plans that `decode` reads in the text that `encode` makes of some plans: the same ones. The only error is
+/// The plans that `decode` reads in the text that `encode` makes of some plans: the same plans. The only error is
 /// `OutOfMemory`.
 pub fn read_back(alloc: Global, plans: &[Compiled]) -> Result<Vec<Compiled>, Fault>
     requires { length plans.now ≤ 64 }

@@ -68,7 +68,7 @@ plan_messages reading [] s = None
 plan_messages reading (name ∷ names) s =
     first_message (plan_message reading name (taken_by (ask_of name) s)) (plan_messages reading names (after (ask_of name) s))
 
--- the plans are those of the files' lists, in order
+-- the plans are the plans of the files' lists, in order
 abbrev pub ArePlansOf : Reading → Profile → List (List ℕ) → Sources → List Plan → Type 0
 ArePlansOf reading profile [] s plans = plans ≡ []
 ArePlansOf reading profile (name ∷ names) s [] = ⊥
@@ -80,7 +80,7 @@ abbrev pub text_in : Option Content → List ℕ
 text_in None = []
 text_in (Some c) = c.text
 
--- a refusal of patterns is that of the first line that is refused; where the list is too large, it names none
+-- a refusal of patterns is the refusal of the first line that is refused; where the list is too large, it names no line
 abbrev pub NamesRefused : Reading → Option Content → Refusal → Type 0
 NamesRefused reading source (Patterns fault) = (fault ≡ ListTooLarge) ⊎ (list_refusal reading.notation (text_in source) ≡ Some (BadPatterns fault))
 NamesRefused reading source (NotHex name line) = list_refusal reading.notation (text_in source) ≡ Some (BadHex line)

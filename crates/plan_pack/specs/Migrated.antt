@@ -37,7 +37,7 @@ abbrev pub IsSourceOf : Option Content → List Plan → Type 0
 IsSourceOf None plans = ⊥
 IsSourceOf (Some c) plans = (c.is_faulty ≡ false) × IsFile c.text plans
 
--- the refusal is that of a file of this name which cannot be used
+-- the refusal says that the file of this name cannot be used
 abbrev pub IsUnusable : List ℕ → Refusal → Type 0
 IsUnusable name (Unusable n) = n.now ≡ name
 IsUnusable name (Patterns fault) = ⊥
@@ -47,8 +47,8 @@ IsUnusable name (NoCertificate line) = ⊥
 IsUnusable name (NoPlanFile place cause) = ⊥
 IsUnusable name (NoPlan n place) = ⊥
 
--- the refusal where what was asked for is none: it cannot be opened, or not be read to its end, or it is wrong. Where
--- reading fails later, the file is wrong only where it is so whatever would have followed; then either refusal is right
+-- The refusal of a content that is no plan file: it cannot be opened, or not be read to its end, or it is wrong. If
+-- reading fails, the file is wrong only if it is wrong whatever would have followed; then either refusal is right.
 pub data IsNoPlanFile (name : List ℕ) (source : Option Content) (refusal : Refusal) : Type 0 where
   Unopened : source ≡ None → IsUnusable name refusal → IsNoPlanFile name source refusal
   Unfinished : (c : Content) → source ≡ Some c → c.is_faulty ≡ true → IsUnusable name refusal → IsNoPlanFile name source refusal

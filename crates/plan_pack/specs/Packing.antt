@@ -1,4 +1,4 @@
--- Making a plan file: what is left of it where that stops.
+-- Making a plan file, and what a stop leaves of it.
 use Rattle.std.specs.Prelude.{◌≡◌, ◌⊎◌, ℕ, Bool, true, false, List, [], ◌∷◌, ◌++◌, ⊤, IfErr, IfSome, MatchOption, Option, Some, None, Result, Ok, Err}
 use Rattle.std.specs.Io.KnownBytes.{Appends}
 use Rattle.byte_io.specs.Sources.{Sources, after, ask_of, can_create, taken_by}
@@ -51,7 +51,7 @@ StaysEmpty written known r =
 
 -- ---- from files of patterns
 
--- the bytes are the plan file of these plans and then of those of the files' lists
+-- the bytes are the plan file of these plans and then of the plans of the files' lists
 pub record HoldsPlansOf (reading : Reading) (profile : Profile) (before : List Plan) (names : List (List ℕ)) (s : Sources) (written : Option (List ℕ)) : Type 0 where
   pub plans : List Plan
   pub right : ArePlansOf reading profile names s plans
@@ -76,7 +76,7 @@ LeavesPack written reading profile before names output s left stop (Some made) =
 LeavesPack written reading profile before names output s left stop None =
     (IsBefore names s left × Explains stop (plan_messages reading names s)) ⊎ ((can_create output s.creatable ≡ false) × (is_refusal stop ≡ true))
 
--- a plan file was made of these plans and of those of the files, or the first message
+-- a plan file was made of these plans and of the plans of the files, or the first message
 abbrev pub MakesPack : {O : Type 0} → (O → Option (List ℕ)) → Reading → Profile → List Plan → List (List ℕ) → List ℕ → Sources → Sources → Made O → Type 0
 MakesPack written reading profile before names output s left (Ok made) =
     (plan_messages reading names s ≡ None) × (can_create output s.creatable ≡ true) × HoldsPlansOf reading profile before names s (written made)
@@ -84,7 +84,7 @@ MakesPack written reading profile before names output s left (Err stopped) =
     Explains stopped.0 (first_message (plan_messages reading names s) (Some (unusable output)))
     × LeavesPack written reading profile before names output s left stopped.0 stopped.1
 
--- where patterns were refused, the refusal is that of the first line that is refused, in the first file that gives no
+-- where patterns were refused, the refusal is the refusal of the first refused line of the first file that gives no
 -- plan
 abbrev pub NamesPack : Reading → List (List ℕ) → Sources → Stop → Type 0
 NamesPack reading [] s stop = ⊤
@@ -92,8 +92,8 @@ NamesPack reading (name ∷ names) s stop =
     MatchOption (plan_message reading name (taken_by (ask_of name) s)) (NamesPack reading names (after (ask_of name) s) stop)
     (λ message. NamesStop reading (taken_by (ask_of name) s) stop)
 
--- a plan file was made of the plans of the files alone, unless it is one of these files: then nothing is asked for, and
--- no memory is wanted
+-- A plan file was made of the plans of the files alone, unless it is one of the files. Then nothing is asked for, and
+-- no memory is wanted.
 pub data PacksFiles {O : Type 0} (written : O → Option (List ℕ)) (reading : Reading) (profile : Profile) (names : List (List ℕ)) (output : List ℕ) (s left : Sources) (r : Made O) : Type 0 where
   Own : (stop : Stop) → reads_file names output ≡ true → is_refusal stop ≡ true → Explains stop (Some (unusable output)) → left ≡ s → r ≡ Err (stop, None)
       → PacksFiles written reading profile names output s left r

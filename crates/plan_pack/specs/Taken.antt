@@ -1,4 +1,4 @@
--- What was read of a file: its list, its plan, its plans or its text; or why there is none.
+-- What a file gave when it was read: its list, its plan, its plans or its text; or why there is none.
 use Rattle.std.specs.Prelude.{◌≡◌, ◌≢◌, ◌↔◌, ℕ, List, [], Contains, IfSome, IsTrue, MatchResult, ⊤, Option, None, Result, Ok, Err}
 use Rattle.std.specs.Global.{Vec}
 use Rattle.byte_io.specs.Sources.{Content, Sources, ask_of, taken_by}
@@ -13,7 +13,7 @@ use Rattle.plan_pack.specs.declared.notation.Reading.{Reading}
 use Rattle.plan_pack.specs.declared.stop.Stop.{Stop}
 use Rattle.plan_pack.specs.declared.stop.Stop.TheVariants.{OutOfMemory, Refused, WriteFault}
 
--- if the files are known, what is asked for under this name can be opened
+-- if the files are known, the file of this name can be opened
 abbrev pub CanBeOpened : Option Sources → List ℕ → Type 0
 CanBeOpened known name = IfSome known (λ s. taken_by (ask_of name) s ≢ None)
 
@@ -33,7 +33,7 @@ TakesPlaces reading name source (Ok found) =
     × (IsTrue found.1.has_empty ↔ Contains (patterns_in reading source) [])
 TakesPlaces reading name source (Err stop) = Explains stop (list_message reading name source)
 
--- where patterns were refused, the refusal is that of the first one
+-- where patterns were refused, the refusal is the first one
 abbrev pub NamesStop : Reading → Option Content → Stop → Type 0
 NamesStop reading source (Refused refusal) = NamesRefused reading source refusal
 NamesStop reading source WriteFault = ⊤

@@ -2,7 +2,7 @@
 //! files; it plans lists, and writes or migrates plans. It knows no request, no standard output and no status.
 //!
 //! Theorems: over known files `pack` makes the plan file of the lists that were read, in order. `migrate_file` makes
-//! that of the plans that were read, each planned anew for sixteen buckets.
+//! the plan file of the plans that were read, each planned anew for sixteen buckets.
 #![tactic(auto)]
 
 mod fault;

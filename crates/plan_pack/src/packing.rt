@@ -32,7 +32,7 @@ pub fn stop_of<O: Drop>(unmade: Unmade<'_, O>) -> Stop<'_>
 ///
 /// # Errors
 /// - `Refused` with the plan file's name, where it is also the name of a file of patterns: then nothing is read. Else
-///   with what is wrong with the patterns of the first file that gives no plan. Else with the plan file's name, where
+///   with the refusal of the first file that gives no plan. Else with the plan file's name, where
 ///   it cannot be made or not be written to its end.
 /// - `OutOfMemory`, where a growth was refused.
 ///
@@ -97,7 +97,7 @@ fn is_file(operand: &str, name: &str) -> bool
     }
 }
 
-/// Makes the plan file of these plans, and then of those of the files of patterns.
+/// Makes the plan file of these plans and then of the plans of the files of patterns.
 fn pack_with<'a, F: Files>(
     alloc: Global,
     reading: Reading,
@@ -146,7 +146,7 @@ fn with_plan(mut plans: Vec<Compiled>, plan: Compiled) -> Result<Vec<Compiled>, 
 /// - `Refused` with the name, where the file cannot be made or not be written to its end.
 /// - `OutOfMemory`, where a growth was refused.
 ///
-/// With them comes the file that was made, if one was, as with those of `pack`.
+/// With them comes the file that was made, if one was, as with the errors of `pack`.
 pub fn make<'a, F: Files>(
     alloc: Global,
     plans: &[Compiled],

@@ -137,7 +137,7 @@ pub data IsPackAnswer {O : Type 0} (written : O → Option (List ℕ)) (has_fail
   Cut : (plans : List plan.Plan) (made : O) → P plans → can ≡ true → HoldsPrefix plans (written made) → has_failed made ≡ true
       → a ≡ refused_with (unusable name) → IsPackAnswer written has_failed P name can a
 
--- the message where no plan file is made: it is one of the files of patterns; or one of these gives no plan
+-- the message where no plan file is made: it is one of the files of patterns, or one of the files gives no plan
 abbrev pub pack_message : Reading → List (List ℕ) → List ℕ → Sources → Option (List ℕ)
 pack_message reading names output s = if reads_file names output then Some (unusable output) else plan_messages reading names s
 
@@ -164,12 +164,12 @@ pub data IsExplainAnswer (profile : Profile) (list : Literals) (svg : Bool) (pat
   Unplanned : length list.texts ≡ 0 → a ≡ where_wrong NoLiterals → IsExplainAnswer profile list svg patterns a
   Explained : IsExplained profile list svg patterns a → IsExplainAnswer profile list svg patterns a
 
--- the refusal of what was asked for where it gives no list
+-- the refusal of a file that gives no list
 pub record IsNoList (reading : Reading) (name : List ℕ) (source : Option Content) (refusal : Refusal) : Type 0 where
   pub message : list_message reading name source ≡ Some (message_on refusal)
   pub names : NamesRefused reading source refusal
 
--- to explain what was asked for: where it is wrong, or its plan
+-- to explain a file of patterns by its content: where it is wrong, or its plan
 pub data ExplainsList (reading : Reading) (profile : Profile) (svg : Bool) (name : List ℕ) (source : Option Content) (a : Answer) : Type 0 where
   NoList : (refusal : Refusal) → IsNoList reading name source refusal → a ≡ where_wrong refusal → ExplainsList reading profile svg name source a
   HasList : list_message reading name source ≡ None → IsExplainAnswer profile (list_in reading source) svg (patterns_in reading source) a
@@ -184,7 +184,7 @@ pub data IsPlanAnswerAt (P : plan.Plan → Answer → Type 0) (name : List ℕ) 
   NoneThere : slice_get plans place ≡ None → a ≡ refused_with (no_plan name place) → IsPlanAnswerAt P name place plans a
   OneThere : (p : plan.Plan) → slice_get plans place ≡ Some p → P p a → IsPlanAnswerAt P name place plans a
 
--- on what stands for a plan file: the answer on what is wrong with it, or that on one of its plans
+-- on a content that should be a plan file: where it is wrong, or the answer about one of its plans
 pub data AnswersPlanAt (wrong : Refusal → Answer) (P : plan.Plan → Answer → Type 0) (name : List ℕ) (place : ℕ) (source : Option Content) (a : Answer) : Type 0 where
   NoFile : (refusal : Refusal) → IsNoPlanFile name source refusal → a ≡ wrong refusal → AnswersPlanAt wrong P name place source a
   HasPlans : (plans : List plan.Plan) → IsSourceOf source plans → IsPlanAnswerAt P name place plans a → AnswersPlanAt wrong P name place source a

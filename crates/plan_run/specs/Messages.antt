@@ -45,7 +45,7 @@ wrong_list ListTooLarge = Some (codes "more than 1048576 bytes in all lines, or 
 abbrev pub wrong_line : ℕ → List ℕ
 wrong_line line = codes "line " ++ (decimal line ++ codes ": wrong, missing or after the end\n")
 
--- what is wrong at a field of a plan file
+-- why a field of a plan file is wrong
 abbrev pub wrong_field : Cause → List ℕ
 wrong_field Short = codes "the field is cut short\n"
 wrong_field Magic = codes "a plan file begins with LPLF\n"
@@ -58,7 +58,7 @@ wrong_field Runs = codes "the number of runs is out of range\n"
 wrong_field (NotCertified reason) = not_certified reason
 wrong_field Trailing = codes "bytes follow the last plan\n"
 
--- where a plan file is wrong: the first byte of the field, from 0, and what is
+-- where a plan file is wrong: the first byte of the field, from 0, and why
 abbrev pub wrong_byte : ℕ → Cause → List ℕ
 wrong_byte place cause = codes "byte " ++ (decimal place ++ (codes ": " ++ wrong_field cause))
 

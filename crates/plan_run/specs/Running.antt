@@ -60,7 +60,7 @@ Reports P (Err (Refused refusal)) out_old out_new = P (refused_with (message_on 
 Reports P (Err WriteFault) out_old out_new = IsPrefix P out_old out_new
 Reports P (Err OutOfMemory) out_old out_new = IsUnfinished P out_old out_new
 
--- what was written and is answered of a stop where an input is explained
+-- what is written and answered at a stop where an input is explained
 abbrev pub ReportsStop : Stop → Result Status Stop → Option (List ℕ) → Option (List ℕ) → Type 0
 ReportsStop (Refused refusal) r old new = Reports (λ a. a ≡ where_wrong refusal) r old new
 ReportsStop WriteFault r old new = ⊥
@@ -68,8 +68,8 @@ ReportsStop OutOfMemory r old new = (r ≡ Err OutOfMemory) × Appends old new [
 
 -- ---- a run
 
--- what a run answers and writes before any message; of a file that it makes, the device shows what was written and
--- whether a write failed
+-- What a run answers and writes before any message. If it makes a file, the device shows what was written, and whether
+-- a write failed.
 pub record Answers {O : Type 0} (written : O → Option (List ℕ)) (has_failed : O → Bool) (r : Request) (s left : Sources) (result : Result Status Stop) (out_old out_new : Option (List ℕ)) : Type 0 where
   pub asks : UnlessStarved result (IsLeftBy r s left) (asks_of r s) s left
   pub reports : Reports (IsAnswerTo written has_failed r s) result out_old out_new

@@ -83,7 +83,7 @@ fn wrong_list(alloc: Global, fault: Fault) -> Result<Option<String>, AllocError>
     }
 }
 
-/// Where a plan file is wrong, and what is.
+/// Where a plan file is wrong, and why.
 fn wrong_byte(alloc: Global, place: usize, cause: Cause) -> Result<String, AllocError>
     ensures { IfOk result (λ text. string_bytes text ≡ wrong_byte place cause) }
 {
@@ -91,7 +91,7 @@ fn wrong_byte(alloc: Global, place: usize, cause: Cause) -> Result<String, Alloc
     format!(in alloc; "byte {place}: {field}")
 }
 
-/// What is wrong at a field of a plan file.
+/// Why a field of a plan file is wrong.
 fn wrong_field(alloc: Global, cause: Cause) -> Result<String, AllocError>
     ensures { IfOk result (λ text. string_bytes text ≡ wrong_field cause) }
 {

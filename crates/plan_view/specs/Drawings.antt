@@ -80,13 +80,13 @@ caption profile l ends =
     said (codes "<text x=\"40\" y=\"24\">cost ") (total_of l ends) ++ (said (codes "; one bucket for all ") (single l)
     ++ (said (even_phrase profile) (even_parts profile l) ++ codes "</text>\n"))
 
--- the head of the file of so many buckets: its size, and colours for light and dark pages
+-- the head of a file with `count` buckets: its size, and colours for light and dark pages
 unfoldable pub head : ℕ → List ℕ
 head count =
     said (codes "<svg xmlns=\"http://www.w3.org/2000/svg\" viewBox=\"0 0 720 ") (316 + count * 18)
     ++ codes "\" font-family=\"sans-serif\" font-size=\"13\">\n<style>text { fill: #24292f } rect { fill: #4f8fd0; stroke: #fff } path { stroke: #24292f }\n@media (prefers-color-scheme: dark) { text { fill: #e6edf3 } rect { stroke: #0d1117 } path { stroke: #e6edf3 } }</style>\n"
 
--- the line on which the bars stand, and what is by them
+-- the line on which the bars stand, and the text below it
 unfoldable pub foot : List ℕ
 foot = codes "<path d=\"M40 260H680\"/>\n<text x=\"40\" y=\"300\">literals by length; below a bucket the bytes of its shortest, above it its cost</text>\n"
 

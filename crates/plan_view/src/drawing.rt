@@ -18,7 +18,7 @@ const SIZE: &[u8] = b"<svg xmlns=\"http://www.w3.org/2000/svg\" viewBox=\"0 0 72
 const STYLE: &[u8] =
     b"\" font-family=\"sans-serif\" font-size=\"13\">\n<style>text { fill: #24292f } rect { fill: #4f8fd0; stroke: #fff } path { stroke: #24292f }\n@media (prefers-color-scheme: dark) { text { fill: #e6edf3 } rect { stroke: #0d1117 } path { stroke: #e6edf3 } }</style>\n";
 
-/// The line on which the bars stand, and what is by them.
+/// The line on which the bars stand, and the text below it.
 const FOOT: &[u8] =
     b"<path d=\"M40 260H680\"/>\n<text x=\"40\" y=\"300\">literals by length; below a bucket the bytes of its shortest, above it its cost</text>\n";
 
@@ -47,7 +47,7 @@ pub fn plan_svg(
     Ok(text)
 }
 
-/// Appends the head of the drawing of so many buckets.
+/// Appends the head of a drawing with `count` buckets.
 fn push_head(count: usize, text: &mut Vec<u8>) -> Result<(), AllocError>
     requires { count ≤ 16 }
     ensures { OnOk result (text.new.items ≡ text.old.items ++ head count) }

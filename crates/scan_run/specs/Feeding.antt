@@ -37,8 +37,8 @@ pub record FeedsOn (before : Serving) (stream : ℕ) (piece : List ℕ) (count :
   pub few : length new < MAX_HITS
   pub sent_full : SendsFull stream gained new written_old written_new waits_old waits_new
 
--- feeding a prefix of a piece stopped: none was fed, or the first of the hits gained with the earlier ones are sent in
--- full replies, and a prefix of the replies is written
+-- Feeding a prefix of a piece stopped: nothing was fed, or the first of the earlier and the gained hits are sent in
+-- full replies, and a prefix of the replies is written.
 abbrev pub StopsFeeding : Serving → ℕ → List ℕ → List (ℕ × ℕ) → Option (List ℕ) → Option (List ℕ) → List ℕ → Type 0
 StopsFeeding before stream piece old written_old written_new waits =
     SendsPrefix written_old written_new waits []

@@ -23,7 +23,7 @@ pub record Loading : Type 0 where
 abbrev pub state : Option Sources → List TicketParts → Option (List ℕ) → Loading
 state files tickets said = record { files = files; tickets = tickets; said = said }
 
--- the one file that was asked for is that of a name
+-- the file of this name was asked for, and no other
 abbrev pub AsksFor : List ℕ → Option Sources → Option Sources → Type 0
 AsksFor name old new = devices.IfKnown old new (λ x y. y ≡ after (Named name) x)
 

@@ -9,12 +9,12 @@ use plan_store::{PlanStore, Ticket};
 use std::alloc::Global;
 use std::sync::Wait;
 
-/// Publishes the plans of the files of these names, one file after the other, each as `load_named` does.
-/// `tickets` gains those of all plans, in order. With no names it does nothing.
+/// Publishes the plans of the files with these names, in order, each as `load_named` does. `tickets` gains the tickets
+/// of all plans, in order. With no names it does nothing.
 ///
 /// # Errors
-/// Those of `load_named`, for the first file that is not loaded. No file after it is opened, and the plans
-/// of those before it stay.
+/// The errors of `load_named`, for the first file that is not loaded. No file after it is opened, and the plans of the
+/// files before it stay.
 pub fn load_files<R: Wait, F: Opener, E: ByteOut>(
     rt: &R,
     alloc: Global,

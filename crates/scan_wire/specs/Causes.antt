@@ -73,7 +73,7 @@ pub record BeginsWithFrame (text : List ℕ) : Type 0 where
   pub is_frame : IsFrame frame
   pub text_is : text ≡ frame_text frame ++ rest
 
--- a payload begins as that of a list with literals does
+-- a payload begins like the payload of a list with literals
 pub record AnnouncesLiterals (payload : List ℕ) : Type 0 where
   pub fold : Fold
   pub profile : Profile
@@ -88,7 +88,7 @@ pub record TakesMemory (f : FrameParts) : Type 0 where
   pub stream : f.stream ≡ 0
   pub literals : AnnouncesLiterals f.payload
 
--- such a frame stands at the start
+-- a frame that takes memory stands at the start
 pub record BeginsWithList (text : List ℕ) : Type 0 where
   pub prefix : BeginsWithFrame text
   pub takes : TakesMemory prefix.frame

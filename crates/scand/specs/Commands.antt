@@ -28,8 +28,8 @@ abbrev pub ReportsPort : ℕ → Option (List ℕ) → Option (List ℕ) → Typ
 ReportsPort port err_old err_new =
     ((port ≡ 0) × (chosen : ℕ) × Appends err_old err_new (port_line chosen)) ⊎ ((port ≢ 0) × (err_new ≡ err_old))
 
--- So many connections to a port were served and reported, once the port was reported. Or why there were none was said,
--- and nothing else was done; or a write failed of the port that the system chose.
+-- This number of connections to a port were served and reported, once the port was reported. Or the message on why
+-- there were none was written, and nothing else was done. Or the port that the system chose could not be written.
 pub data ServesPort (port connections : ℕ) (status : Status) (out_failed err_failed : Bool) (out_old out_new err_old err_new : Option (List ℕ)) : Type 0 where
   Reported : (err_mid : Option (List ℕ)) (had_failed : Bool) → ReportsPort port err_old err_mid → ReportsSome connections status out_failed had_failed err_failed out_old out_new err_mid err_new
       → ServesPort port connections status out_failed err_failed out_old out_new err_old err_new

@@ -24,7 +24,7 @@ pub struct Request {
 pub enum Service {
     /// One client over standard input and output.
     Alone,
-    /// So many connections to a port of this machine. The system chooses it where it is 0.
+    /// Connections to a port of this machine. If the port is 0, the system chooses it.
     Listen { port: u16, connections: Connections },
 }
 
