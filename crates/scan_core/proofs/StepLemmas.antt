@@ -17,7 +17,7 @@ use Rattle.scan_core.specs.declared.refusal.Refusal.TheVariants.{StreamInUse, St
 use Rattle.scan_core.specs.declared.limits.TheConstants.{MAX_STREAMS}
 use Rattle.scan_wire.specs.declared.message.TheConstants.{MAX_HITS}
 use Rattle.scan_core.specs.Blocks.{AreBlocks}
-use Rattle.scan_core.specs.Publishing.{IsPlanFor}
+use Rattle.scan_core.specs.Publishing.{IsSoundPlanOf}
 use Rattle.scan_core.specs.Refusals.{code_of, publish_refusal}
 use Rattle.scan_core.specs.Sessions.{Bound, IsEvent, Serving, by_tails, entry_of, parts_of}
 use Rattle.scan_core.specs.Steps.{AgreeWith, Entry, IsAccepted, IsSound, IsStep, Outcome, Reading, SessionParts, closed, fed_replies, known_entries, moved, opened, plan_reply, published, refusal_of, refused, refused_reply, shown, stream_at, stream_of, stream_refusal}
@@ -63,7 +63,7 @@ published_count : (s : Serving) (literals : List (List ℕ)) → publish_refusal
 published_count s literals = ap (λ n. publish_refusal n literals) (length-map s.published_plans entry_of)
 
 -- a Publish that is stored
-pub published_entry : (s : Serving) (fold : Fold) (profile : Profile) (literals : List (List ℕ)) (ticket : TicketParts) (reply : ReplyParts) (new : Serving) → None ≡ publish_refusal (length s.published_plans) literals → IsPlanFor fold profile literals ticket.plan → AgreeWith (known_to s) (entry_of ticket) → reply ≡ Published ticket.number → new ≡ record s { published_plans = s.published_plans ++ ticket ∷ [] } → IsEvent s (Publish fold profile literals) (reply ∷ []) new
+pub published_entry : (s : Serving) (fold : Fold) (profile : Profile) (literals : List (List ℕ)) (ticket : TicketParts) (reply : ReplyParts) (new : Serving) → None ≡ publish_refusal (length s.published_plans) literals → IsSoundPlanOf fold profile literals ticket.plan → AgreeWith (known_to s) (entry_of ticket) → reply ≡ Published ticket.number → new ≡ record s { published_plans = s.published_plans ++ ticket ∷ [] } → IsEvent s (Publish fold profile literals) (reply ∷ []) new
 published_entry s fold profile literals ticket reply new none planned agreed replied after =
     let outcome : Outcome Bound = record { replies = reply ∷ []; met = Some (entry_of ticket); after = parts_of new } in
     let parts : parts_of new ≡ (published (parts_of s) (entry_of ticket)).after =

@@ -6,6 +6,6 @@ use Rattle.lit_plan.specs.Plans.{Plan}
 use Rattle.scan_core.specs.Steps.{IsPlanOf, IsSound}
 
 -- the plan of literals, which holds
-pub record IsPlanFor (fold : Fold) (profile : Profile) (literals : List (List ℕ)) (plan : Plan) : Type 0 where
+pub record IsSoundPlanOf (fold : Fold) (profile : Profile) (literals : List (List ℕ)) (plan : Plan) : Type 0 where
   pub planned : IsPlanOf fold profile literals plan
   pub sound : IsSound plan

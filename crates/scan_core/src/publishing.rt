@@ -2,7 +2,7 @@
 ghost use Rattle.std.specs.Prelude.{◌≡◌, IfOk, IsOkUnless};
 ghost use Rattle.list_plan.specs.Planned.{IsPlanned};
 ghost use Rattle.scan_wire.specs.Messages.{texts_of};
-ghost use Rattle.scan_core.specs.Publishing.{IsPlanFor};
+ghost use Rattle.scan_core.specs.Publishing.{IsSoundPlanOf};
 ghost use Rattle.scan_core.specs.Steps.{IsSound};
 ghost use Rattle.scan_core.specs.declared.fault.Fault.TheVariants.{OutOfMemory};
 
@@ -19,7 +19,7 @@ pub(crate) fn planned(
     profile: Profile,
     literals: &[Vec<u8>],
 ) -> Result<Compiled, Fault>
-    ensures plan { IfOk result (IsPlanFor fold profile (texts_of literals.now)) }
+    ensures plan { IfOk result (IsSoundPlanOf fold profile (texts_of literals.now)) }
     ensures fault { IsOkUnless result OutOfMemory }
 {
     let raw = raw_of(alloc, literals)?;

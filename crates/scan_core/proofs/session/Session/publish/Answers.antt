@@ -2,7 +2,7 @@ use Rattle.std.proofs.Common.{◌≡◌, ◌∷◌, [], List, length, None, sym,
 use Rattle.std.proofs.lemmas.List.Elements.{All-push}
 use Rattle.plan_store.specs.Tickets.{IsOf, TicketParts}
 use Rattle.scan_wire.specs.Messages.{Publish, Published, texts_of}
-use Rattle.scan_core.specs.Publishing.{IsPlanFor}
+use Rattle.scan_core.specs.Publishing.{IsSoundPlanOf}
 use Rattle.scan_core.specs.Refusals.{publish_refusal}
 use Rattle.scan_core.specs.Sessions.{IsEvent, Serving}
 use Rattle.scan_core.specs.Together.{AgreesWith}
@@ -29,7 +29,7 @@ returns-clause-ok g c =
     let new : Serving = record s { published_plans = c.push.new.self } in
     subst (λ (t : Serving). IsEvent t (Publish c.args.fold c.args.profile texts) (Published c.number-number.result ∷ []) new) c.self.view_is
     (published_entry s c.args.fold c.args.profile texts ticket (Published c.number-number.result) new none
-    (subst (IsPlanFor c.args.fold c.args.profile texts) (sym c.in-Ok.ensures.plan) c.in_ok-plan.ensures.plan)
+    (subst (IsSoundPlanOf c.args.fold c.args.profile texts) (sym c.in-Ok.ensures.plan) c.in_ok-plan.ensures.plan)
     (known_agree s ticket (subst (AgreesWith ticket) (sym c.self.view_is) c.agrees_with.ensures))
     (ap Published c.number-number.ensures)
     (ap (λ (published_plans : List TicketParts). record s { published_plans = published_plans }) c.push.ensures))
