@@ -1,6 +1,6 @@
 -- Pattern files one after another: what their patterns, their messages and their asks are.
 use Rattle.std.proofs.Common.{◌≡◌, ◌≢◌, ℕ, ◌+◌, ◌<◌, true, cond, String, string_bytes, length, get_or, drop, List, [], ◌∷◌, ◌++◌, map, flat_map, Option, None, Some, is_some, refl, sym, ap, ◌∙◌, subst, append_assoc}
-use Rattle.std.specs.Option.{option_map}
+use Rattle.std.specs.Option.{option_map, option_or}
 use Rattle.std.proofs.lemmas.List.{drop_more}
 use Rattle.byte_io.specs.Devices.{IfKnown}
 use Rattle.byte_io.specs.Sources.{AreShort, Ask, Named, Sources, after, after_all, source_of}
@@ -17,7 +17,7 @@ use Rattle.grep_run.specs.Gathering.{Explains, HasPatterns, StopsAtFile, TakesAl
 use Rattle.grep_run.specs.Grep.{asks}
 use Rattle.grep_run.specs.Messages.{patterns_refused}
 use Rattle.grep_run.specs.Options.{asks_for, lists_of}
-use Rattle.grep_run.specs.Patterns.{content_message, files_asked, files_message, files_read, first_of, lists_refusal, pattern_files, patterns_from, patterns_in}
+use Rattle.grep_run.specs.Patterns.{content_message, files_asked, files_message, files_read, lists_refusal, pattern_files, patterns_from, patterns_in}
 use Rattle.grep_run.specs.Sources.{Input, found}
 
 -- the patterns of files
@@ -34,7 +34,7 @@ pub record FilesSoFar (old now : List (List ℕ)) (all rest : List Ask) (s left 
   pub short : AreShort left
 
 -- a message that there is not: what stands after it counts
-following-none : (message second : Option (List ℕ)) → message ≡ None → first_of message second ≡ second
+following-none : (message second : Option (List ℕ)) → message ≡ None → option_or message second ≡ second
 following-none None second e = refl
 following-none (Some text) second e = (cc)
 
@@ -67,9 +67,9 @@ FilesSoFar-more {old} {now} {all} {s} {mid} new name rest left p e none grown =
     }
 
 -- a text that explains a message explains the first of it and another
-Explains-first : (why : NoPatterns) (message second : Option (List ℕ)) → Explains why message → Explains why (first_of message second)
-Explains-first (Unreadable name) message second e = ap (λ m. first_of m second) e
-Explains-first (Refused fault) message second e = λ other. ap (λ m. first_of m second) (e other)
+Explains-first : (why : NoPatterns) (message second : Option (List ℕ)) → Explains why message → Explains why (option_or message second)
+Explains-first (Unreadable name) message second e = ap (λ m. option_or m second) e
+Explains-first (Refused fault) message second e = λ other. ap (λ m. option_or m second) (e other)
 
 -- unless memory ran out, there is a message
 has-message : (why : NoPatterns) (message : Option (List ℕ)) → why ≢ Refused OutOfMemory → Explains why message → is_some message ≡ true
@@ -99,7 +99,7 @@ FilesSoFar-stop {old} {now} {all} {s} {mid} name rest left why p e explains =
     }
 
 -- where no list is refused, the files count
-none-refused : (refusal : Option Fault) (second : Option (List ℕ)) → refusal ≡ None → first_of (option_map patterns_refused refusal) second ≡ second
+none-refused : (refusal : Option Fault) (second : Option (List ℕ)) → refusal ≡ None → option_or (option_map patterns_refused refusal) second ≡ second
 none-refused None second e = refl
 none-refused (Some fault) second e = (cc)
 

@@ -1,7 +1,7 @@
 -- The patterns of pattern lists and pattern files, and why they are refused. POSIX.1-2017 `grep`, OPTIONS, -e and -f,
 -- and OPERANDS, pattern_list.
 use Rattle.std.specs.Prelude.{◌≡◌, ◌≢◌, ℕ, List, [], ◌∷◌, ◌++◌, length, flat_map, nat_lt, if◌then◌else◌, is_some, Option, Some, None, Result, MatchResult}
-use Rattle.std.specs.Option.{option_map}
+use Rattle.std.specs.Option.{option_map, option_or}
 use Rattle.byte_io.specs.Sources.{Content, Sources}
 use Rattle.lit_base.specs.Lines.{lines, pieces}
 use Rattle.lit_base.specs.RawLists.{earlier, text_refusal}
@@ -46,16 +46,11 @@ content_message before name (Some c) =
 abbrev pub file_message : List (List ℕ) → Input → Option (List ℕ)
 file_message before file = content_message before (name_of file.ask) file.source
 
--- the first text, or else the second
-abbrev pub first_of : Option (List ℕ) → Option (List ℕ) → Option (List ℕ)
-first_of None second = second
-first_of (Some text) second = Some text
-
 -- the message on the first file that gives no patterns, each taken after the patterns before it
 abbrev pub files_message : List (List ℕ) → List Input → Option (List ℕ)
 files_message before [] = None
 files_message before (file ∷ files) =
-    first_of (file_message before file) (files_message (before ++ patterns_from file.source) files)
+    option_or (file_message before file) (files_message (before ++ patterns_from file.source) files)
 
 -- the files up to that one
 abbrev pub files_read : List (List ℕ) → List Input → List Input
@@ -74,7 +69,7 @@ all_patterns o s = patterns_in (lists_of o) ++ flat_map (λ file. patterns_from 
 -- the message on the patterns: on the first list that is refused, else on the first file that gives none
 abbrev pub patterns_message : GrepOptions → Sources → Option (List ℕ)
 patterns_message o s =
-    first_of (option_map patterns_refused (lists_refusal [] (lists_of o)))
+    option_or (option_map patterns_refused (lists_refusal [] (lists_of o)))
     (files_message (patterns_in (lists_of o)) (pattern_files o s))
 
 -- the pattern files that are opened: none where a list is refused, else the files up to the first that gives no

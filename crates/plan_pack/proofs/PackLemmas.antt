@@ -1,6 +1,7 @@
 -- A plan file that is made: from the plans to the file of them.
 use Rattle.std.proofs.Common.{◌≡◌, ℕ, true, cond, List, [], ◌∷◌, ◌++◌, IfErr, MatchOption, Option, None, Some, Result, Ok, Err, inl, inr, ◌-◌, ◌<◌, ◌≤◌, arith, drop, get_or, length, take, refl, sym, ap, subst, ◌∙◌, append_assoc, append-nil, take_all}
 use Rattle.std.specs.Prelude.{String, map, string_bytes}
+use Rattle.std.specs.Option.{option_or}
 use Rattle.byte_io.specs.Devices.{IfKnown}
 use Rattle.byte_io.specs.Sources.{AreShort, Ask, Content, Created, Named, Sources, Standard, after, ask_of, can_create, taken_by}
 use Rattle.byte_io.proofs.OpenerLemmas.{short-after}
@@ -8,7 +9,7 @@ use Rattle.byte_io.proofs.KnownLemmas.{IfKnown-none, IfKnown-then, IfKnown-weake
 use Rattle.lit_plan.specs.Plans.{Plan}
 use Rattle.plan_pack.specs.Asking.{Asks, asks_for_plans, pack_asks, reads_file}
 use Rattle.lit_base.specs.declared.profile.Profile.{Profile}
-use Rattle.plan_pack.specs.Lists.{IsPlanOf, first_message, list_in, plan_message, plan_messages}
+use Rattle.plan_pack.specs.Lists.{IsPlanOf, list_in, plan_message, plan_messages}
 use Rattle.plan_pack.specs.Messages.{unusable}
 use Rattle.plan_pack.specs.Packing.{Made, MakesFile, MakesPack, NamesPack, Own, PacksFiles, StaysEmpty, answer_of}
 use Rattle.plan_pack.specs.PlanFiles.{HoldsPrefix, HoldsPlans}
@@ -26,7 +27,7 @@ same-creatable Standard s = refl
 same-creatable (Created name) s = refl
 
 -- the message that comes first explains a stop also where another would follow
-first-explains : (stop : Stop) (reason later : Option (List ℕ)) → Explains stop reason → Explains stop (first_message reason later)
+first-explains : (stop : Stop) (reason later : Option (List ℕ)) → Explains stop reason → Explains stop (option_or reason later)
 first-explains (Refused refusal) None later e = (cc)
 first-explains (Refused refusal) (Some text) later e = e
 first-explains WriteFault reason later e = e
@@ -55,7 +56,7 @@ packs-next : {O : Type 0} (written : O → Option (List ℕ)) (reading : Reading
     → plan_message reading file (taken_by (ask_of file) s) ≡ None → IsPlanOf profile (list_in reading (taken_by (ask_of file) s)) plan
     → MakesPack written reading profile (before ++ plan ∷ []) names output (after (ask_of file) s) left r → MakesPack written reading profile before (file ∷ names) output s left r
 packs-next written reading profile before file names output s left plan (Ok made) none right makes = (
-  ap (λ m. first_message m (plan_messages reading names (after (ask_of file) s))) none ∙ makes.0,
+  ap (λ m. option_or m (plan_messages reading names (after (ask_of file) s))) none ∙ makes.0,
   ap (can_create output) (sym (same-creatable (ask_of file) s)) ∙ makes.1,
   record {
     plans = plan ∷ makes.2.plans;
@@ -64,9 +65,9 @@ packs-next written reading profile before file names output s left plan (Ok made
   },
 )
 packs-next written reading profile before file names output s left plan (Err (stop, Some made)) none right makes =
-    let first : first_message (plan_message reading file (taken_by (ask_of file) s)) (plan_messages reading names (after (ask_of file) s)) ≡ plan_messages reading names (after (ask_of file) s) =
-    ap (λ m. first_message m (plan_messages reading names (after (ask_of file) s))) none in (
-      subst (λ m. Explains stop (first_message m (Some (unusable output)))) (sym first) makes.0,
+    let first : option_or (plan_message reading file (taken_by (ask_of file) s)) (plan_messages reading names (after (ask_of file) s)) ≡ plan_messages reading names (after (ask_of file) s) =
+    ap (λ m. option_or m (plan_messages reading names (after (ask_of file) s))) none in (
+      subst (λ m. Explains stop (option_or m (Some (unusable output)))) (sym first) makes.0,
       (
         first ∙ makes.1.0,
         ap (can_create output) (sym (same-creatable (ask_of file) s)) ∙ makes.1.1,
@@ -78,15 +79,15 @@ packs-next written reading profile before file names output s left plan (Err (st
       ),
     )
 packs-next written reading profile before file names output s left plan (Err (stop, None)) none right (why, inl kept) =
-    let first : first_message (plan_message reading file (taken_by (ask_of file) s)) (plan_messages reading names (after (ask_of file) s)) ≡ plan_messages reading names (after (ask_of file) s) =
-    ap (λ m. first_message m (plan_messages reading names (after (ask_of file) s))) none in (
-      subst (λ m. Explains stop (first_message m (Some (unusable output)))) (sym first) why,
+    let first : option_or (plan_message reading file (taken_by (ask_of file) s)) (plan_messages reading names (after (ask_of file) s)) ≡ plan_messages reading names (after (ask_of file) s) =
+    ap (λ m. option_or m (plan_messages reading names (after (ask_of file) s))) none in (
+      subst (λ m. Explains stop (option_or m (Some (unusable output)))) (sym first) why,
       inl (inr kept.0, subst (λ m. Explains stop m) (sym first) kept.1),
     )
 packs-next written reading profile before file names output s left plan (Err (stop, None)) none right (why, inr cannot) =
-    let first : first_message (plan_message reading file (taken_by (ask_of file) s)) (plan_messages reading names (after (ask_of file) s)) ≡ plan_messages reading names (after (ask_of file) s) =
-    ap (λ m. first_message m (plan_messages reading names (after (ask_of file) s))) none in (
-      subst (λ m. Explains stop (first_message m (Some (unusable output)))) (sym first) why,
+    let first : option_or (plan_message reading file (taken_by (ask_of file) s)) (plan_messages reading names (after (ask_of file) s)) ≡ plan_messages reading names (after (ask_of file) s) =
+    ap (λ m. option_or m (plan_messages reading names (after (ask_of file) s))) none in (
+      subst (λ m. Explains stop (option_or m (Some (unusable output)))) (sym first) why,
       inr (ap (can_create output) (sym (same-creatable (ask_of file) s)) ∙ cannot.0, cannot.1),
     )
 
@@ -115,9 +116,9 @@ pack-stopped {O} written reading profile before file names output known mid stop
     let taken = h short in
     let message : Option (List ℕ) = plan_message reading file (taken_by (ask_of file) s) in
     let others : Option (List ℕ) = plan_messages reading names (after (ask_of file) s) in
-    let first : Explains stop (first_message message others) = first-explains stop message others taken.1 in (
+    let first : Explains stop (option_or message others) = first-explains stop message others taken.1 in (
       asks-stopped O file (asks_for_plans reading names (Created output) (after (ask_of file) s)) message stop s left taken.1 taken.0,
-      (first-explains stop (first_message message others) (Some (unusable output)) first, inl (inl taken.0, first)),
+      (first-explains stop (option_or message others) (Some (unusable output)) first, inl (inl taken.0, first)),
     ))
 
 -- memory ran out behind a plan

@@ -1,7 +1,7 @@
 -- What a file gives: the list of its lines' literals, its plan, a text to search, or a message.
 use Rattle.std.specs.Prelude.{◌≡◌, ◌⊎◌, ℕ, List, [], ◌∷◌, length, ⊤, nat_eq, nat_lt, if◌then◌else◌, Option, Some, None}
 use Rattle.std.specs.List.{AllZip}
-use Rattle.std.specs.Option.{option_map}
+use Rattle.std.specs.Option.{option_map, option_or}
 use Rattle.byte_io.specs.Sources.{Content, Sources, after, ask_of, taken_by}
 use Rattle.lit_plan.specs.Plans.{Plan}
 use Rattle.lit_base.specs.Faults.{number_of}
@@ -44,18 +44,13 @@ abbrev pub list_in : Reading → Option Content → Literals
 list_in reading None = record { folding = reading.fold; texts = [] }
 list_in reading (Some c) = record { folding = reading.fold; texts = literals_of reading c.text }
 
--- the first message of two, if there is any
-abbrev pub first_message : Option (List ℕ) → Option (List ℕ) → Option (List ℕ)
-first_message None later = later
-first_message (Some message) later = Some message
-
 -- the message where a list has no literal
 abbrev pub empty_message : Literals → Option (List ℕ)
 empty_message list = if nat_eq (length list.texts) 0 then Some (refused 5) else None
 
 -- the message where a content gives no plan: it has no list, or there is no literal in it
 abbrev pub plan_message : Reading → List ℕ → Option Content → Option (List ℕ)
-plan_message reading name source = first_message (list_message reading name source) (empty_message (list_in reading source))
+plan_message reading name source = option_or (list_message reading name source) (empty_message (list_in reading source))
 
 -- the plan is the list's of the profile
 pub record IsPlanOf (profile : Profile) (list : Literals) (plan : Plan) : Type 0 where
@@ -66,7 +61,7 @@ pub record IsPlanOf (profile : Profile) (list : Literals) (plan : Plan) : Type 0
 abbrev pub plan_messages : Reading → List (List ℕ) → Sources → Option (List ℕ)
 plan_messages reading [] s = None
 plan_messages reading (name ∷ names) s =
-    first_message (plan_message reading name (taken_by (ask_of name) s)) (plan_messages reading names (after (ask_of name) s))
+    option_or (plan_message reading name (taken_by (ask_of name) s)) (plan_messages reading names (after (ask_of name) s))
 
 -- the plans are the plans of the files' lists, in order
 abbrev pub ArePlansOf : Reading → Profile → List (List ℕ) → Sources → List Plan → Type 0

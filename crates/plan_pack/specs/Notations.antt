@@ -1,7 +1,7 @@
 -- The patterns of a text's lines in either notation, and which lines are refused.
 use Rattle.std.specs.Prelude.{◌≡◌, ◌≢◌, ℕ, ◌+◌, ◌*◌, ◌%◌, List, [], ◌∷◌, Option, Some, None, Result, Ok, Err, length, map, unwrap_or}
 use Rattle.std.specs.List.{AllPass}
-use Rattle.std.specs.Option.{option_map}
+use Rattle.std.specs.Option.{option_map, option_or}
 use Rattle.hex.specs.Hex.{IsBytes, decode_of, encode_lower, encode_upper, is_hex_digit}
 use Rattle.hex.specs.declared.error.FromHexError.{FromHexError}
 use Rattle.lit_base.specs.Lines.{lines}
@@ -42,11 +42,6 @@ abbrev pub patterns_of : Notation → List ℕ → List (List ℕ)
 patterns_of Bytes text = lines text
 patterns_of Hex text = map hex_pattern (lines text)
 
--- the first refusal, or else the second
-abbrev pub sooner : Option Unlisted → Option Unlisted → Option Unlisted
-sooner None second = second
-sooner (Some why) second = Some why
-
 -- the refusal of a line that says these bytes or none, after `count` patterns with `bytes` bytes in all
 abbrev pub line_refusal : ℕ → ℕ → Option (List ℕ) → Option Unlisted
 line_refusal count bytes None = Some (BadHex (count + 1))
@@ -56,7 +51,7 @@ line_refusal count bytes (Some pattern) = option_map BadPatterns (pattern_refusa
 abbrev pub hex_refusal : ℕ → ℕ → List (List ℕ) → Option Unlisted
 hex_refusal count bytes [] = None
 hex_refusal count bytes (line ∷ more) =
-    sooner (line_refusal count bytes (hex_bytes line)) (hex_refusal (count + 1) (bytes + length (hex_pattern line)) more)
+    option_or (line_refusal count bytes (hex_bytes line)) (hex_refusal (count + 1) (bytes + length (hex_pattern line)) more)
 
 -- why a text's lines give no list
 abbrev pub list_refusal : Notation → List ℕ → Option Unlisted

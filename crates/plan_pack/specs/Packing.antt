@@ -1,6 +1,7 @@
 -- Making a plan file, and what a stop leaves of it.
 use Rattle.std.specs.Prelude.{◌≡◌, ◌⊎◌, ℕ, Bool, true, false, List, [], ◌∷◌, ◌++◌, ⊤, IfErr, IfSome, MatchOption, Option, Some, None, Result, Ok, Err}
 use Rattle.std.specs.Io.KnownBytes.{Appends}
+use Rattle.std.specs.Option.{option_or}
 use Rattle.byte_io.specs.Sources.{Sources, after, ask_of, can_create, taken_by}
 use Rattle.byte_io.specs.Transfers.{AppendsPart}
 use Rattle.lit_plan.specs.Plans.{Plan}
@@ -8,7 +9,7 @@ use Rattle.plan_pack.specs.Asking.{reads_file}
 use Rattle.lit_base.specs.declared.profile.Profile.{Profile}
 use Rattle.plan_file.specs.Spelling.{ArePlans, spelling}
 use Rattle.plan_file.specs.declared.version.Version.TheVariants.{Two}
-use Rattle.plan_pack.specs.Lists.{ArePlansOf, first_message, plan_message, plan_messages}
+use Rattle.plan_pack.specs.Lists.{ArePlansOf, plan_message, plan_messages}
 use Rattle.plan_pack.specs.Messages.{unusable}
 use Rattle.plan_pack.specs.PlanFiles.{HoldsPrefix, HoldsPlans}
 use Rattle.plan_pack.specs.Stops.{Explains, is_refusal}
@@ -81,7 +82,7 @@ abbrev pub MakesPack : {O : Type 0} → (O → Option (List ℕ)) → Reading �
 MakesPack written reading profile before names output s left (Ok made) =
     (plan_messages reading names s ≡ None) × (can_create output s.creatable ≡ true) × HoldsPlansOf reading profile before names s (written made)
 MakesPack written reading profile before names output s left (Err stopped) =
-    Explains stopped.0 (first_message (plan_messages reading names s) (Some (unusable output)))
+    Explains stopped.0 (option_or (plan_messages reading names s) (Some (unusable output)))
     × LeavesPack written reading profile before names output s left stopped.0 stopped.1
 
 -- where patterns were refused, the refusal is the refusal of the first refused line of the first file that gives no

@@ -2,12 +2,13 @@
 use Rattle.std.proofs.Common.{◌≡◌, ℕ, Bool, false, cond, List, [], Option, None, Some, IfSome, Result, Ok, Err, inl, inr, refl, sym, ap, subst, ◌∙◌}
 use Rattle.std.proofs.KnownBytes.{Appends-nil}
 use Rattle.std.specs.Prelude.{map, string_bytes}
+use Rattle.std.specs.Option.{option_or}
 use Rattle.byte_io.specs.Devices.{IfKnown}
 use Rattle.byte_io.specs.Sources.{AreShort, Sources, can_create}
 use Rattle.byte_io.proofs.KnownLemmas.{IfKnown-weaker}
 use Rattle.plan_pack.specs.Asking.{Asks, pack_asks}
 use Rattle.lit_base.specs.declared.profile.Profile.{Profile}
-use Rattle.plan_pack.specs.Lists.{ArePlansOf, first_message, plan_messages}
+use Rattle.plan_pack.specs.Lists.{ArePlansOf, plan_messages}
 use Rattle.plan_pack.specs.Messages.{message_on, unusable}
 use Rattle.plan_pack.specs.Packing.{LeavesPack, Other, Own, PacksFiles}
 use Rattle.plan_pack.specs.Stops.{Explains, is_refusal}
@@ -49,7 +50,7 @@ IsReportedOf written has_failed reading profile names output s message =
 
 -- a file that is not made, or not whole, has its message where nothing comes before
 reports-cut : {O : Type 0} (written : O → Option (List ℕ)) (has_failed : O → Bool) (reading : Reading) (profile : Profile) (names : List (List ℕ)) (output : List ℕ) (s left : Sources) (message : Option (List ℕ)) (stop : Stop) (begun : Option O) (out : Option (List ℕ))
-    → message ≡ plan_messages reading names s → Explains stop (first_message message (Some (unusable output))) → LeavesPack written reading profile [] names output s left stop begun
+    → message ≡ plan_messages reading names s → Explains stop (option_or message (Some (unusable output))) → LeavesPack written reading profile [] names output s left stop begun
     → IfSome begun (λ made. has_failed made ≡ is_refusal stop)
     → Reports (IsReportedOf written has_failed reading profile names output s message) (Err stop) out out
 reports-cut written has_failed reading profile names output s left message OutOfMemory begun out same why leaves broken = reports-silent (IsReportedOf written has_failed reading profile names output s message) out

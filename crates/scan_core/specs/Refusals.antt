@@ -1,5 +1,6 @@
 -- Why a session refuses a request, and which refusal comes first.
 use Rattle.std.specs.Prelude.{ℕ, ◌+◌, ◌==◌, nat_le, nat_lt, List, [], ◌∷◌, length, sum_by, Option, Some, None, if◌then◌else◌}
+use Rattle.std.specs.Option.{option_or}
 use Rattle.lit_base.specs.declared.limits.TheConstants.{MAX_LIST_LEN, MAX_LITERAL_LEN, MAX_PATTERNS}
 use Rattle.scan_core.specs.declared.limits.TheConstants.{MAX_PLANS}
 use Rattle.scan_core.specs.declared.refusal.Refusal.{Refusal}
@@ -33,11 +34,6 @@ detail_of PlanQuota = 0
 detail_of StreamQuota = 0
 detail_of StreamTooLong = 0
 
--- the first refusal, or else the second
-abbrev pub earlier : Option Refusal → Option Refusal → Option Refusal
-earlier None second = second
-earlier (Some refusal) second = Some refusal
-
 -- of a literal at a place
 abbrev pub literal_refusal : ℕ → List ℕ → Option Refusal
 literal_refusal place literal =
@@ -48,7 +44,7 @@ literal_refusal place literal =
 -- of the first literal that has one, counted from a place on
 abbrev pub first_refusal : ℕ → List (List ℕ) → Option Refusal
 first_refusal place [] = None
-first_refusal place (literal ∷ literals) = earlier (literal_refusal place literal) (first_refusal (place + 1) literals)
+first_refusal place (literal ∷ literals) = option_or (literal_refusal place literal) (first_refusal (place + 1) literals)
 
 -- of literals that have too many bytes together
 abbrev pub list_refusal : List (List ℕ) → Option Refusal
@@ -60,4 +56,4 @@ publish_refusal plan_count literals =
     if nat_le MAX_PLANS plan_count then Some PlanQuota
     else if length literals == 0 then Some NoLiterals
     else if nat_lt MAX_PATTERNS (length literals) then Some TooManyPatterns
-    else earlier (first_refusal 0 literals) (list_refusal literals)
+    else option_or (first_refusal 0 literals) (list_refusal literals)
