@@ -7,4 +7,4 @@ pub returns-in-Err-clause-few : goal.returns-in-Err-clause-few
 returns-in-Err-clause-few c = text_fails _ _ c.args.text.now (lines c.args.text.now) _ c.in-Err.ensures.refused
 
 pub returns-in-Err-clause-starved : goal.returns-in-Err-clause-starved
-returns-in-Err-clause-starved c = text_starved _ _ c.args.text.now (lines c.args.text.now) _ c.in-Err.ensures.refused
+returns-in-Err-clause-starved c = rw c.new-raw.ensures at (text_starved _ _ c.args.text.now (lines c.args.text.now) _ c.in-Err.ensures.refused)
