@@ -143,9 +143,9 @@ def report(results, options):
     turns = "Seed %d, %d turns in each of %d rounds." % (options.seed, options.turns, options.rounds)
     lines = ["# Scans that tune themselves", "", machine(options.size), turns, "",
              "A ratio is the time of another scan divided by the time of the tuned scan, each the least of the turns. Above 1, tuning",
-             "pays, or the tuned scan is ahead of Hyperscan. `least` is the least ratio of a list. A text is at hand in memory, or comes",
-             "in pieces of 64 KiB, or in small pieces of 1,000 bytes. Hyperscan counts the hits; under `keeping` it keeps them as the",
-             "scans do.", ""]
+             "pays, or the tuned scan is ahead of Hyperscan. `least` is the least ratio of a list. A text `at hand` is in",
+             "memory. A text `in pieces` comes in pieces of 64 KiB. A text `in small pieces` comes in pieces of 1,000 bytes. Hyperscan",
+             "counts the hits. Under `keeping` it keeps them as the scans do.", ""]
     for (build, way), like in results.items():
         lines += ["## By kind, %s, %s" % (way, build), ""] + as_groups(like) + [""]
     for (build, way), like in results.items():
