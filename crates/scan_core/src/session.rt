@@ -295,13 +295,8 @@ impl<'s> Session<'s> {
             unreachable!()
         };
         let bound = self.streams.get_mut(place);
-        self.finder.prepare(
-            alloc,
-            self.store,
-            bound.ticket(),
-            bound.place(),
-            piece.len(),
-        );
+        self.finder
+            .prepare(alloc, self.store, bound.ticket(), bound.place());
         let count = bound.feed_prefix(self.store, &mut self.finder, piece, most, out)?;
         Ok(count)
     }

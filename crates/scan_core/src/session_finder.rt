@@ -62,7 +62,7 @@ impl TicketFinder {
 #[derive(Drop)]
 pub(crate) struct SessionFinder {
     own: Option<TicketFinder>,
-    /// How many bytes were fed to long streams of other plans since a stream of its own plan was fed.
+    /// How many bytes were fed to streams of other plans since a stream of its own plan was fed.
     fed_to_others: usize,
 }
 
@@ -87,17 +87,10 @@ impl SessionFinder {
         }
     }
 
-    /// Prepares for a feed of `count` bytes to a stream by the plan of a ticket. `place` is the stream's position. From
+    /// Prepares for a feed to a stream by the plan of a ticket. `place` is the stream's position. From
     /// `LEAST_WITH_FINDER` on there is a finder by this plan, unless a finder of another plan is in use, the plan has
     /// too few literals, or memory is short. Without a finder the stream is scanned by the plan alone.
-    pub(crate) fn prepare(
-        &mut self,
-        alloc: Global,
-        store: &PlanStore,
-        ticket: &Ticket,
-        place: u64,
-        count: usize,
-    )
+    pub(crate) fn prepare(&mut self, alloc: Global, store: &PlanStore, ticket: &Ticket, place: u64)
         requires own { IfSome self.old (IsOf store.now) }
         requires ticket { IsOf store.now ticket.now }
         ensures { IfSome self.new (IsOf store.now) }
@@ -105,7 +98,6 @@ impl SessionFinder {
         if self.is_by(store, ticket) {
             self.fed_to_others = 0;
         } else if place >= LEAST_WITH_FINDER {
-            self.fed_to_others = self.fed_to_others.saturating_add(count);
             self.make_if_due(alloc, store, ticket);
         }
     }
@@ -161,7 +153,11 @@ impl SessionFinder {
             Some(own) if own.is_by(store, ticket) => {
                 feed_by(&mut own.finder, scanner, piece, most, out)
             }
-            _ => feed_by(&mut PrefilterSearch, scanner, piece, most, out),
+            _ => {
+                let count = feed_by(&mut PrefilterSearch, scanner, piece, most, out)?;
+                self.fed_to_others = self.fed_to_others.saturating_add(count);
+                Ok(count)
+            }
         }
     }
 }
