@@ -1,7 +1,8 @@
 #!/usr/bin/env python3
 """Tries every wrong body that the contracts are to refuse: the edits of crates/*/must-fail/, which the gate tries too, and
-those of mutants/, which it leaves out for their time. It works on a copy of the tree and prints what was not refused,
-then a table and the time. A run over all crates takes more than an hour on four processors.
+those of mutants/, which it leaves out for their time. It runs the gate's command on a copy of the tree in which all of them
+stand, so what the gate has proved and tried on this machine is not done again. It prints what was not refused, then a table
+and the time. After the gate a run over all crates takes more than an hour on four processors.
 
     python3 tools/mutants.py [CRATE..]"""
 
@@ -20,30 +21,37 @@ TOP = os.path.dirname(os.path.dirname(os.path.abspath(__file__)))
 SAID = re.compile(r"rt: must-fail (\w+)/\S+: (.*)")
 
 
-def copied(folder):
-    """Copies the tree without what was built, and puts all edits where rt looks for them."""
+def copied(folder, crates):
+    """Copies the tree without what was built, and puts all edits of these crates where rt looks for them."""
     for name in "crates.txt", "HANDLES":
         shutil.copy2(os.path.join(TOP, name), folder)
-    shutil.copytree(os.path.join(TOP, "crates"), os.path.join(folder, "crates"), ignore=shutil.ignore_patterns("out"))
+    shutil.copytree(os.path.join(TOP, "crates"), os.path.join(folder, "crates"), ignore=shutil.ignore_patterns("out", "must-fail"))
     os.mkdir(os.path.join(folder, ".git"))
-    for edit in glob.glob(os.path.join(TOP, "mutants", "*", "*.edit")):
-        target = os.path.join(folder, "crates", os.path.basename(os.path.dirname(edit)), "must-fail")
-        os.makedirs(target, exist_ok=True)
-        shutil.copy2(edit, target)
+    for crate in crates or os.listdir(os.path.join(TOP, "crates")):
+        edits = [edit for place in (f"crates/{crate}/must-fail", f"mutants/{crate}") for edit in glob.glob(os.path.join(TOP, place, "*.edit"))]
+        target = os.path.join(folder, "crates", crate, "must-fail")
+        if edits:
+            os.mkdir(target)
+        for edit in edits:
+            shutil.copy2(edit, target)
 
 
 def main(crates):
-    started, refused, others = time.monotonic(), collections.Counter(), 0
+    started, refused, others, last = time.monotonic(), collections.Counter(), 0, collections.deque(maxlen=40)
     with tempfile.TemporaryDirectory() as folder:
-        copied(folder)
-        with subprocess.Popen(["rt", "must-fail", *crates], cwd=folder, stdout=subprocess.PIPE, stderr=subprocess.STDOUT, text=True) as run:
+        copied(folder, crates)
+        with subprocess.Popen(["rt", "ci", *crates], cwd=folder, stdout=subprocess.PIPE, stderr=subprocess.STDOUT, text=True) as run:
             for line in run.stdout:
                 found = SAID.match(line)
-                if found and found[2].startswith("refused"):
+                if not found:
+                    last.append(line)
+                elif found[2].startswith("refused"):
                     refused[found[1]] += 1
                 else:
-                    others += found is not None
+                    others += 1
                     print(line, end="", flush=True)
+    if run.returncode:
+        print(*last, sep="", end="")
     for crate, count in sorted(refused.items()):
         print(f"| {crate} | {count} |")
     minutes = round((time.monotonic() - started) / 60)
