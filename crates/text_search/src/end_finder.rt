@@ -20,8 +20,8 @@ use text_ends::{EndRate, Hit, add_hits_of};
 
 /// A search through the texts of one run for the literals of a plan. It begins as `first_end_after` does. When false
 /// positives and ends have cost too much, it tunes itself to a sample of the text. It then compares the estimates of
-/// factors, shift-or and, for scans, the automaton, and changes to the cheapest if this promises a gain. Its results do
-/// not depend on this. It takes all its memory when it is made.
+/// factors, shift-or and the automaton, and changes to the cheapest if this promises a gain. Its results do not depend
+/// on this. It takes all its memory when it is made.
 #[derive(Debug, Drop)]
 pub struct EndFinder {
     /// Factors, unless the list is too long for them.
@@ -128,6 +128,7 @@ impl EndFinder {
                 self.strategy.note(count, spent, rate);
                 found
             }
+            (Engine::Automaton, _) => self.next_by_automaton(search, from),
             _ => {
                 let before = search.false_positives();
                 let found = search.next_end_after(from);
@@ -137,6 +138,27 @@ impl EndFinder {
                 found
             }
         }
+    }
+
+    /// As `next_end_in`, by the automaton, or by the prefilter if the automaton is not made. It stands alone because its
+    /// reading takes 8 KiB of the stack.
+    #[inline(never)]
+    fn next_by_automaton(&mut self, search: &mut TextSearch<'_>, from: usize) -> Option<usize>
+        requires plan { self.old ≡ search.old.plan.literals }
+        requires inside { from < length search.old.text }
+        ensures same { self.new ≡ self.old }
+        ensures search { search.new ≡ search.old }
+        ensures next { FindsNext search.old.plan.literals search.old.text from result }
+    {
+        let text = search.text();
+        let Some(mut ends) = AutomatonEnds::after(&self.automaton, text, from) else {
+            return search.next_end_after(from);
+        };
+        let found = next_of(&mut ends);
+        let (count, rate) = passed(text, from, found);
+        let spent = self.cost_of_automaton(search.compiled(), count, rate);
+        self.strategy.note(count, spent, rate);
+        found
     }
 
     /// Adds hits by the automaton, as `add_hits` does, or by the prefilter if the automaton is not made. It stands
@@ -160,10 +182,9 @@ impl EndFinder {
             return PrefilterSearch.add_hits(compiled, text, from, at, most, out);
         };
         let stop = add_hits_of(&mut ends, text, from, at, most, out)?;
-        let found = ends.ends();
+        let found = EndRate::of_scan(ends.ends());
         let spent = self.cost_of_automaton(compiled, stop - from, found);
-        self.strategy
-            .note(stop - from, spent, EndRate::of_scan(found));
+        self.strategy.note(stop - from, spent, found);
         Ok(stop)
     }
 
@@ -266,18 +287,19 @@ impl EndFinder {
         self.automaton.build()
     }
 
-    /// The estimate of a scan by the automaton for 1,024 bytes with ends at this rate; `usize::MAX` for single ends,
-    /// which the automaton does not search for.
+    /// The estimate of a search by the automaton for 1,024 bytes at this rate. For single ends it is a quarter higher:
+    /// their inputs may be short, and to make the tables takes as long as to read some megabytes.
     fn estimate_of_automaton(&self, compiled: &Compiled, wanted: Wanted, rate: EndRate) -> usize {
+        let cost = self.cost_of_automaton(compiled, 1024, rate);
         match wanted {
-            Wanted::Hits => self.cost_of_automaton(compiled, 1024, rate.ends),
-            Wanted::Ends => usize::MAX,
+            Wanted::Hits => cost,
+            Wanted::Ends => cost.saturating_add(cost / 4),
         }
     }
 
-    /// The cost of a scan by the automaton for `count` bytes with `ends` ends.
-    fn cost_of_automaton(&self, compiled: &Compiled, count: usize, ends: usize) -> usize {
-        cost_by_automaton(self.automaton.room(), compiled.carry(), count, ends)
+    /// The cost of a search by the automaton that found this much in `count` bytes.
+    fn cost_of_automaton(&self, compiled: &Compiled, count: usize, found: EndRate) -> usize {
+        cost_by_automaton(self.automaton.room(), compiled.carry(), count, found)
     }
 }
 

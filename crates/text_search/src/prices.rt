@@ -1,8 +1,8 @@
 //! Measured and estimated costs of searches by the prefilter and by the automaton, in tenths of a nanosecond.
 
 use crate::tuning::{
-    AUTOMATON_COST, AUTOMATON_GAIN, DENSE, LANE_COST, NEAR_STATES, PREFILTER_END_COST,
-    PREFILTER_FALSE_POSITIVE_COST,
+    AUTOMATON_BLOCK, AUTOMATON_COST, AUTOMATON_GAIN, DENSE, LANE_COST, NEAR_STATES,
+    PREFILTER_END_COST, PREFILTER_FALSE_POSITIVE_COST,
 };
 use text_ends::EndRate;
 
@@ -24,12 +24,13 @@ pub(crate) fn cost_of_dense_ends(rate: EndRate) -> usize {
     }
 }
 
-/// The cost of an automaton with room for `room` states, for `count` bytes with `ends` ends, less its gain at the ends.
-/// Its lanes begin `before` bytes before their first positions.
-pub(crate) fn cost_by_automaton(room: usize, before: usize, count: usize, ends: usize) -> usize {
+/// The cost of an automaton with room for `room` states, for `count` bytes, less its gain at the ends. Its lanes begin
+/// `before` bytes before their first positions. Where a search begins anew after an end, it reads a block once more.
+pub(crate) fn cost_by_automaton(room: usize, before: usize, count: usize, found: EndRate) -> usize {
     let step = AUTOMATON_COST
         .saturating_add(room.saturating_sub(NEAR_STATES) / 2)
         .saturating_add(before.saturating_mul(LANE_COST));
-    let steps = count.saturating_mul(step) / 1024;
-    steps.saturating_sub(ends.saturating_mul(AUTOMATON_GAIN))
+    let read = count.saturating_add(found.starts.saturating_mul(AUTOMATON_BLOCK));
+    let steps = read.saturating_mul(step) / 1024;
+    steps.saturating_sub(found.ends.saturating_mul(AUTOMATON_GAIN))
 }

@@ -29,7 +29,7 @@ pub enum Engine {
     Factors,
     /// Shift-or over buckets of the literals.
     ShiftOr,
-    /// The automaton of the literals: for scans alone.
+    /// The automaton of the literals.
     Automaton,
 }
 

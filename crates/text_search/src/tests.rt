@@ -75,11 +75,24 @@ fn takes_ends_that_stand_close_together_for_as_much_by_factors(rt: HostRuntime) 
     assert_eq!(rt; cost_of_dense_ends(EndRate::of_searches(341)), 0);
 }
 
+/// The cost of 1,024 bytes of a scan by an automaton.
+fn scanned(room: usize, before: usize, ends: usize) -> usize {
+    cost_by_automaton(room, before, 1024, EndRate::of_scan(ends))
+}
+
 #[test]
 fn takes_the_automaton_for_less_where_ends_are_frequent(rt: HostRuntime) {
-    assert_eq!(rt; cost_by_automaton(100, 0, 1024, 0), 9_500);
-    assert_eq!(rt; cost_by_automaton(1024, 0, 2048, 10), 14_000);
-    assert_eq!(rt; cost_by_automaton(8192, 0, 1024, 10), 8_084);
-    assert_eq!(rt; cost_by_automaton(8192, 10, 1024, 45), 0);
-    assert_eq!(rt; cost_by_automaton(8192, 4094, 1024, 45), 88_840);
+    assert_eq!(rt; scanned(100, 0, 0), 9_500);
+    assert_eq!(rt; scanned(1024, 0, 10), 4_500);
+    assert_eq!(rt; scanned(8192, 0, 10), 8_084);
+    assert_eq!(rt; scanned(8192, 10, 45), 0);
+    assert_eq!(rt; scanned(8192, 4094, 45), 88_840);
+}
+
+#[test]
+fn takes_the_automaton_for_more_where_searches_begin_anew(rt: HostRuntime) {
+    assert_eq!(rt;
+        cost_by_automaton(100, 0, 1024, EndRate::of_searches(1)),
+        47_000
+    );
 }

@@ -82,6 +82,9 @@ pub(crate) const NEAR_STATES: usize = 1024;
 /// To begin a lane of 1,024 positions, for each byte of the overlap, which it reads first. Measured.
 pub(crate) const LANE_COST: usize = 24;
 
+/// Bytes. The automaton reads at most this many past an end before it gives the end. Not varied.
+pub(crate) const AUTOMATON_BLOCK: usize = 4096;
+
 /// The gain of the automaton at an end of a scan, since its states list all literals there. Measured on ten lists: 390
 /// to 970.
 pub(crate) const AUTOMATON_GAIN: usize = 500;
