@@ -10,6 +10,7 @@ use crate::strategy::{
     span_after, wants_automaton, wants_automaton_first, wants_shift_or,
 };
 use crate::text_search::{TextSearch, next_of};
+use crate::tuning::STATE_PRICE;
 use factor_search::{FactorEnds, Factors};
 use lit_plan::Compiled;
 use shift_search::{ShiftOr, ShiftOrEnds};
@@ -232,7 +233,8 @@ impl EndFinder {
         self.sample = Some(sample);
     }
 
-    /// Tunes itself to a sample of the text after `from`.
+    /// Tunes itself to a sample of the text after `from`. While the automaton is best but not paid for, the next best
+    /// engine is used.
     #[inline(never)]
     fn tune(&mut self, compiled: &Compiled, text: &[u8], from: usize, wanted: Wanted)
         requires { from ≤ length text.now }
@@ -244,18 +246,19 @@ impl EndFinder {
         let rate = self.strategy.rate();
         let dense = cost_of_dense_ends(rate);
         let by_factors = self.tune_factors(sample, rate).saturating_add(dense);
-        let automaton_estimate = self.estimate_of_automaton(compiled, wanted, rate);
-        let is_built_first = self.build_automaton_if(wants_automaton_first(
-            automaton_estimate,
-            by_factors,
-        ));
+        let automaton_estimate = self.cost_of_automaton(compiled, 1024, rate);
+        let price = self.price_of_automaton(wanted);
+        let is_paid = self.strategy.has_lost(price);
+        let is_built_first = self.build_automaton_if(
+            is_paid && wants_automaton_first(automaton_estimate, by_factors),
+        );
         let by_shift_or = if !is_built_first && wants_shift_or(by_factors) {
             self.shift_or.tune(sample, rate).saturating_add(dense)
         } else {
             usize::MAX
         };
         let is_best = wants_automaton(automaton_estimate, by_factors, by_shift_or);
-        let by_automaton = if self.build_automaton_if(is_best) {
+        let by_automaton = if self.build_automaton_if(is_paid && is_best) {
             automaton_estimate
         } else {
             usize::MAX
@@ -265,6 +268,9 @@ impl EndFinder {
             shift_or: by_shift_or,
             automaton: by_automaton,
         });
+        if is_best && !is_paid {
+            self.strategy.wait_for(automaton_estimate, price);
+        }
     }
 
     /// Chooses factors by a sample. Returns the estimate of a search by them; `usize::MAX` if there are none.
@@ -287,13 +293,12 @@ impl EndFinder {
         self.automaton.build()
     }
 
-    /// The estimate of a search by the automaton for 1,024 bytes at this rate. For single ends it is a quarter higher:
-    /// their inputs may be short, and to make the tables takes as long as to read some megabytes.
-    fn estimate_of_automaton(&self, compiled: &Compiled, wanted: Wanted, rate: EndRate) -> usize {
-        let cost = self.cost_of_automaton(compiled, 1024, rate);
-        match wanted {
-            Wanted::Hits => cost,
-            Wanted::Ends => cost.saturating_add(cost / 4),
+    /// What has to be lost before the automaton is built: nothing in a scan, or where it is in use. A search for single
+    /// ends may be short, so it first loses what building takes.
+    fn price_of_automaton(&self, wanted: Wanted) -> usize {
+        match (wanted, self.engine()) {
+            (Wanted::Hits, _) | (Wanted::Ends, Engine::Automaton) => 0,
+            (Wanted::Ends, _) => self.automaton.room().saturating_mul(STATE_PRICE),
         }
     }
 

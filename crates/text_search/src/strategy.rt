@@ -239,6 +239,17 @@ impl Strategy {
         self.is_due() || !self.is_tuned() && likely >= self.most_lost.saturating_mul(SURE)
     }
 
+    /// Whether the loss has reached a price.
+    pub fn has_lost(&self, price: usize) -> bool {
+        self.measured.lost >= price
+    }
+
+    /// Keeps the engine in use until it has cost `price` more than one with this estimate.
+    pub fn wait_for(&mut self, cost: usize, price: usize) {
+        self.allowed = cost;
+        self.most_lost = price;
+    }
+
     /// Adds the cost of some bytes, and the ends found in them.
     #[inline]
     pub fn note(&mut self, bytes: usize, cost: usize, found: EndRate) {

@@ -1,6 +1,7 @@
 //! The engine that a tuned search uses next.
 use crate::prices::{cost_by_automaton, cost_by_prefilter, cost_of_dense_ends};
 use crate::strategy::{Engine, Estimates, Strategy};
+use crate::tuning::LEAST_SAMPLE;
 use text_ends::EndRate;
 
 /// Bytes of a search between two choices.
@@ -61,6 +62,17 @@ fn keeps_its_engine_until_it_tunes_again(rt: HostRuntime) {
     assert_eq!(rt; strategy.engine(), Engine::Factors);
     strategy.choose(estimates(100_000, 9_000, usize::MAX));
     assert_eq!(rt; strategy.engine(), Engine::ShiftOr);
+}
+
+#[test]
+fn waits_until_the_price_is_lost(rt: HostRuntime) {
+    let mut strategy = promised(9_000, 8_000);
+    strategy.wait_for(6_000, 200_000);
+    let once = after(strategy, 8_000);
+    assert!(rt; once.has_lost(128_000));
+    assert!(rt; !once.has_lost(128_001));
+    assert!(rt; !once.tunes_before(LEAST_SAMPLE));
+    assert!(rt; after(once, 8_000).tunes_before(LEAST_SAMPLE));
 }
 
 #[test]

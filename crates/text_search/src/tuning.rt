@@ -85,6 +85,9 @@ pub(crate) const LANE_COST: usize = 24;
 /// Bytes. The automaton reads at most this many past an end before it gives the end. Not varied.
 pub(crate) const AUTOMATON_BLOCK: usize = 4096;
 
+/// To build the automaton, for each state. Measured on lists of 2,000 and 4,096, not varied.
+pub(crate) const STATE_PRICE: usize = 3000;
+
 /// The gain of the automaton at an end of a scan, since its states list all literals there. Measured on ten lists: 390
 /// to 970.
 pub(crate) const AUTOMATON_GAIN: usize = 500;
