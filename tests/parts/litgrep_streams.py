@@ -1,6 +1,7 @@
 """`litgrep` on odd streams: full, closed, endless, named pipes, and files that are also its output."""
 
 import os
+import random
 import resource
 import select
 import subprocess
@@ -29,6 +30,24 @@ def long_inputs():
     lines = b"a cat\nno dog\nthe end\n"
     count = (32 << 20) // len(lines)
     yield "32 MiB, counted", run(["-c", "cat"], lines * count), (0, b"%d\n" % count, b"")
+
+
+def long_lists():
+    """Thousands of literals, few of which occur, in 15 MB: long enough for a search that changes its engine on the way."""
+    rng = random.Random(7)
+    words = ["".join(rng.choices("abcdefghijkl", k=rng.randint(3, 9))) for _ in range(2000)]
+    lines = [" ".join(rng.choices(words, k=12)) for _ in range(3500)]
+    text = "\n".join(lines) + "\n"
+    literals = set()
+    while len(literals) < 3000:
+        literal = (rng.choice(words) + rng.choice(words))[1 : rng.randint(5, 12)]
+        if literal not in text:
+            literals.add(literal)
+    found = [f"{place} {literal} {line}\n" for place, (literal, line) in enumerate(zip(sorted(literals)[::1000], lines))]
+    with tempfile.TemporaryDirectory() as folder:
+        lay_out(folder, {"p": "\n".join(sorted(literals)).encode(), "t": ("".join(found) + text).encode() * 50})
+        yield "3,000 literals in 15 MB", run(["-f", "p", "t"], cwd=folder), (0, "".join(found * 50).encode(), b"")
+        yield "the same, counted", run(["-c", "-f", "p", "t"], cwd=folder), (0, b"%d\n" % (len(found) * 50), b"")
 
 
 # The bytes of a line that no memory holds, and the memory that a run may have.
@@ -74,6 +93,7 @@ def edges():
     yield "a line of a mebibyte", run(["cat"], mebibyte + b"dog\n"), (0, mebibyte, b"")
     yield from long_lines()
     yield from long_inputs()
+    yield from long_lists()
     with open("/dev/full", "wb") as full:
         yield "a full device", run(["cat"], b"cat\n", stdout=full), (2, None, b"")
         yield "a folder, counted on a full device", run(["-c", "cat", "/"], stdout=full), (2, None, b"")
