@@ -29,6 +29,8 @@ pub struct EndFinder {
     factors: Option<Factors>,
     shift_or: ShiftOr,
     automaton: Automaton,
+    /// Whether the tables of the automaton were refused: then it has no estimate.
+    is_refused: bool,
     /// Bytes gathered from short pieces of a stream. The finder takes the sample out while it tunes.
     sample: Option<Sample>,
     strategy: Strategy,
@@ -58,6 +60,7 @@ impl EndFinder {
             factors,
             shift_or,
             automaton,
+            is_refused: false,
             sample: Some(sample),
             strategy: Strategy::new(),
         })
@@ -130,7 +133,7 @@ impl EndFinder {
                 found
             }
             (Engine::Automaton, _) => self.next_by_automaton(search, from),
-            _ => {
+            (Engine::Prefilter, _) | (Engine::Factors, None) => {
                 let before = search.false_positives();
                 let found = search.next_end_after(from);
                 let (count, rate) = passed(text, from, found);
@@ -233,8 +236,8 @@ impl EndFinder {
         self.sample = Some(sample);
     }
 
-    /// Tunes itself to a sample of the text after `from`. While the automaton is best but not paid for, the next best
-    /// engine is used.
+    /// Tunes itself to a sample of the text after `from`, and forgets the bytes gathered before. While the automaton is
+    /// best but not paid for, the next best engine is used.
     #[inline(never)]
     fn tune(&mut self, compiled: &Compiled, text: &[u8], from: usize, wanted: Wanted)
         requires { from ≤ length text.now }
@@ -246,7 +249,7 @@ impl EndFinder {
         let rate = self.strategy.rate();
         let dense = cost_of_dense_ends(rate);
         let by_factors = self.tune_factors(sample, rate).saturating_add(dense);
-        let automaton_estimate = self.cost_of_automaton(compiled, 1024, rate);
+        let automaton_estimate = self.estimate_automaton(compiled, rate);
         let price = self.price_of_automaton(wanted);
         let is_paid = self.strategy.has_lost(price);
         let is_built_first = self.build_automaton_if(
@@ -270,6 +273,11 @@ impl EndFinder {
         });
         if is_best && !is_paid {
             self.strategy.wait_for(automaton_estimate, price);
+        } else {
+            self.strategy.stop_waiting();
+        }
+        if let Some(sample) = &mut self.sample {
+            sample.clear();
         }
     }
 
@@ -283,6 +291,14 @@ impl EndFinder {
         }
     }
 
+    /// The estimate of a search by the automaton; `usize::MAX` if its tables were refused.
+    fn estimate_automaton(&self, compiled: &Compiled, rate: EndRate) -> usize {
+        if self.is_refused {
+            return usize::MAX;
+        }
+        self.cost_of_automaton(compiled, 1024, rate)
+    }
+
     /// Builds the tables of the automaton if it is wanted. Returns whether they are built.
     fn build_automaton_if(&mut self, is_wanted: bool) -> bool
         ensures { self.new ≡ self.old }
@@ -290,7 +306,9 @@ impl EndFinder {
         if !is_wanted {
             return false;
         }
-        self.automaton.build()
+        let is_built = self.automaton.build();
+        self.is_refused = !is_built;
+        is_built
     }
 
     /// What has to be lost before the automaton is built: nothing in a scan, or where it is in use. A search for single
@@ -342,7 +360,7 @@ impl HitSearch for EndFinder {
                 self.strategy.note(stop - from, spent, found);
                 Ok(stop)
             }
-            _ => {
+            (Engine::Prefilter, _) | (Engine::Factors, None) => {
                 let mut ends = compiled.prefilter_ends(text, from);
                 let stop = add_hits_of(&mut ends, text, from, at, most, out)?;
                 let found = EndRate::of_scan(ends.tally().ends);

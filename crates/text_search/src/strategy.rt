@@ -1,12 +1,14 @@
-//! The only module that chooses among the four engines. A choice changes the time of a search, never its result.
+//! The rules by which a finder chooses among the four engines; `EndFinder` applies them, most in `EndFinder::tune`. A
+//! choice changes the time of a search, never its result.
 //!
 //! | question | when | depends on | function |
 //! |---|---|---|---|
 //! | Does the list gain by a finder, and has this factors? | once | the number of literals | [`has_use`], [`has_factors`] |
 //! | When is the finder of a stream made? | once enough bytes were searched | the bytes, the number of literals | [`make_if_long`](crate::make_if_long) |
-//! | Which engine searches the next bytes, and how many of them? | before a span or a piece | the engine in use, the bytes available | [`Strategy::engine_for`], [`span_after`] |
+//! | Which engine searches the next bytes, and how many of them? | before a search | the engine in use, in a scan the bytes available | [`Strategy::engine`], [`Strategy::engine_for`], [`span_after`] |
 //! | Tune now, or gather bytes first? | before each search | the loss, the bytes available, the number of literals | [`Strategy::step`], [`Strategy::tunes_before`], [`least_gathered`] |
 //! | Which engines are worth preparing, and from how much text? | when it tunes | the number of literals, the estimates so far | [`sample_len`], [`wants_automaton_first`], [`wants_shift_or`], [`wants_automaton`] |
+//! | Is the automaton built at once, or waited for? | when it tunes | the result that is wanted, the loss, the size of the automaton | [`Strategy::has_lost`], [`Strategy::wait_for`] |
 //! | Which engine is best? | after tuning | the estimates | [`Strategy::choose`] |
 
 ghost use Rattle.std.specs.Prelude.{◌<◌, ◌↔◌, IsTrue};
@@ -138,14 +140,13 @@ impl Estimates {
     }
 }
 
-/// What a finder has measured since it chose its engine. Costs are in tenths of a nanosecond.
+/// What a finder has measured since it chose its engine.
 #[derive(Clone, Copy, Debug)]
 struct Measured {
     bytes: usize,
+    /// In tenths of a nanosecond.
     cost: usize,
     found: EndRate,
-    /// By how much the cost exceeds the allowance.
-    lost: usize,
 }
 
 impl Measured {
@@ -155,19 +156,53 @@ impl Measured {
             bytes: 0,
             cost: 0,
             found: EndRate::nothing(),
-            lost: 0,
         }
     }
 }
 
-/// The engine that a finder uses, and when it tunes. Allowances and losses are in tenths of a nanosecond.
+/// What an engine costs above an allowance, in tenths of a nanosecond.
+#[derive(Clone, Copy, Debug)]
+struct Loss {
+    /// The allowance for 1,024 bytes.
+    allowed: usize,
+    /// The loss that is too much.
+    bound: usize,
+    /// The loss so far.
+    lost: usize,
+}
+
+impl Loss {
+    /// No loss yet, above this allowance.
+    fn above(allowed: usize, bound: usize) -> Loss {
+        Loss {
+            allowed,
+            bound,
+            lost: 0,
+        }
+    }
+
+    /// Whether the loss has reached the bound.
+    #[inline(always)]
+    fn is_too_much(&self) -> bool {
+        self.lost >= self.bound
+    }
+
+    /// Adds the cost of some bytes.
+    #[inline(always)]
+    fn add(&mut self, bytes: usize, cost: usize) {
+        let allowed = bytes.saturating_mul(self.allowed) / 1024;
+        self.lost = self.lost.saturating_add(cost).saturating_sub(allowed);
+    }
+}
+
+/// The engine that a finder uses, and when it tunes.
 #[derive(Clone, Copy, Debug)]
 pub(crate) struct Strategy {
     engine: Engine,
-    /// The allowance for 1,024 bytes.
-    allowed: usize,
-    /// The loss at which it tunes.
-    most_lost: usize,
+    /// What the engine costs above its allowance. The finder tunes where this is too much.
+    loss: Loss,
+    /// What it costs above the estimate of an engine that is not prepared yet, while the finder waits for that one.
+    awaited: Option<Loss>,
     measured: Measured,
 }
 
@@ -176,8 +211,8 @@ impl Strategy {
     pub fn new() -> Strategy {
         Strategy {
             engine: Engine::Prefilter,
-            allowed: PREFILTER_SLACK,
-            most_lost: LEAST_LOSS,
+            loss: Loss::above(PREFILTER_SLACK, LEAST_LOSS),
+            awaited: None,
             measured: Measured::nothing(),
         }
     }
@@ -224,37 +259,59 @@ impl Strategy {
         }
     }
 
-    /// Whether the loss has reached the limit.
+    /// Whether a loss has reached its bound.
     #[inline(always)]
     fn is_due(&self) -> bool {
-        self.measured.lost >= self.most_lost
+        self.loss.is_too_much()
+            || match &self.awaited {
+                Some(awaited) => awaited.is_too_much(),
+                None => false,
+            }
     }
 
     /// As `is_due`, in a text with `rest` bytes to go. Under the prefilter, the loss expected in the rest counts too.
     fn is_due_before(&self, rest: usize) -> bool {
         let likely = self
-            .measured
+            .loss
             .lost
             .saturating_mul(rest / self.measured.bytes.max(1));
-        self.is_due() || !self.is_tuned() && likely >= self.most_lost.saturating_mul(SURE)
+        self.is_due() || !self.is_tuned() && likely >= self.loss.bound.saturating_mul(SURE)
     }
 
-    /// Whether the loss has reached a price.
+    /// Whether the loss, or the loss above an engine that it waits for, has reached a price.
     pub fn has_lost(&self, price: usize) -> bool {
-        self.measured.lost >= price
+        let awaited = match self.awaited {
+            Some(awaited) => awaited.lost,
+            None => 0,
+        };
+        self.loss.lost.max(awaited) >= price
     }
 
-    /// Keeps the engine in use until it has cost `price` more than one with this estimate.
-    pub fn wait_for(&mut self, cost: usize, price: usize) {
-        self.allowed = cost;
-        self.most_lost = price;
+    /// Waits for an engine with this estimate, or goes on waiting: it is due once the engine in use has cost `price`
+    /// more. The prefilter is kept only where it is about as good as the tuned engines, so nothing is waited for then.
+    pub fn wait_for(&mut self, estimate: usize, price: usize) {
+        if !self.is_tuned() {
+            return;
+        }
+        let lost = match self.awaited {
+            Some(awaited) => awaited.lost,
+            None => 0,
+        };
+        self.awaited = Some(Loss {
+            lost,
+            ..Loss::above(estimate, price)
+        });
+    }
+
+    /// Waits for no engine any more.
+    pub fn stop_waiting(&mut self) {
+        self.awaited = None;
     }
 
     /// Adds the cost of some bytes, and the ends found in them.
     #[inline]
     pub fn note(&mut self, bytes: usize, cost: usize, found: EndRate) {
         let before = self.measured;
-        let allowed = bytes.saturating_mul(self.allowed) / 1024;
         self.measured = Measured {
             bytes: before.bytes.saturating_add(bytes),
             cost: before.cost.saturating_add(cost),
@@ -262,8 +319,11 @@ impl Strategy {
                 ends: before.found.ends.saturating_add(found.ends),
                 starts: before.found.starts.saturating_add(found.starts),
             },
-            lost: before.lost.saturating_add(cost).saturating_sub(allowed),
         };
+        self.loss.add(bytes, cost);
+        if let Some(awaited) = &mut self.awaited {
+            awaited.add(bytes, cost);
+        }
     }
 
     /// Changes to the engine with the lowest estimate, unless the prefilter is in use and this is not clearly better.
@@ -272,14 +332,19 @@ impl Strategy {
         let (engine, cost) = estimates.best();
         let allowed = allowed_for(cost);
         let is_better = self.is_better(cost, allowed);
-        self.most_lost = if is_better {
-            (self.most_lost / 2).max(LEAST_LOSS)
+        let bound = if is_better {
+            (self.loss.bound / 2).max(LEAST_LOSS)
         } else {
-            self.most_lost.saturating_mul(2).min(LEAST_LOSS * MOST_WAIT)
+            self.loss
+                .bound
+                .saturating_mul(2)
+                .min(LEAST_LOSS * MOST_WAIT)
         };
         if is_better || self.is_tuned() {
             self.engine = engine;
-            self.allowed = allowed;
+            self.loss = Loss::above(allowed, bound);
+        } else {
+            self.loss = Loss::above(self.loss.allowed, bound);
         }
         self.measured = Measured::nothing();
     }
@@ -290,7 +355,7 @@ impl Strategy {
     fn is_better(&self, cost: usize, allowed: usize) -> bool {
         let spent = self.measured_cost();
         if self.is_tuned() {
-            allowed < self.allowed - self.allowed / 8 || allowed < spent / 2
+            allowed < self.loss.allowed - self.loss.allowed / 8 || allowed < spent / 2
         } else {
             cost < spent - spent / 8
         }

@@ -76,6 +76,28 @@ fn waits_until_the_price_is_lost(rt: HostRuntime) {
 }
 
 #[test]
+fn keeps_what_was_lost_while_it_tunes_again(rt: HostRuntime) {
+    let mut strategy = promised(9_000, 8_000);
+    strategy.wait_for(6_000, 200_000);
+    let mut once = after(strategy, 8_000);
+    once.choose(estimates(9_000, 8_000, usize::MAX));
+    once.wait_for(6_000, 200_000);
+    assert!(rt; after(once, 8_000).tunes_before(LEAST_SAMPLE));
+    once.stop_waiting();
+    assert!(rt; !after(once, 8_000).tunes_before(LEAST_SAMPLE));
+}
+
+#[test]
+fn waits_for_nothing_under_the_prefilter(rt: HostRuntime) {
+    let mut strategy = after(Strategy::new(), 2_000);
+    strategy.choose(estimates(9_000, 8_000, usize::MAX));
+    assert_eq!(rt; strategy.engine(), Engine::Prefilter);
+    strategy.wait_for(2_000, 128_000);
+    assert!(rt; !after(strategy, 4_000).has_lost(300_000));
+    assert!(rt; after(strategy, 6_000).has_lost(300_000));
+}
+
+#[test]
 fn takes_ends_that_stand_close_together_for_as_much_by_factors(rt: HostRuntime) {
     assert_eq!(rt; cost_by_prefilter(0, 100), 50_000);
     assert_eq!(rt; cost_by_prefilter(3, 1), 1_700);

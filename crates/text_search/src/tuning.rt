@@ -75,8 +75,8 @@ pub(crate) const PREFILTER_END_COST: usize = 500;
 /// The automaton, for 1,024 bytes without ends, while its rows stay in the cache. Measured.
 pub(crate) const AUTOMATON_COST: usize = 9500;
 
-/// States whose rows stay in the cache; each further one costs half a unit for 1,024 bytes. Measured on four lists of
-/// 1,000.
+/// States whose rows stay in the cache; each further one for which the automaton has room costs half a unit for 1,024
+/// bytes. Measured on four lists of 1,000.
 pub(crate) const NEAR_STATES: usize = 1024;
 
 /// To begin a lane of 1,024 positions, for each byte of the overlap, which it reads first. Measured.
@@ -85,7 +85,7 @@ pub(crate) const LANE_COST: usize = 24;
 /// Bytes. The automaton reads at most this many past an end before it gives the end. Not varied.
 pub(crate) const AUTOMATON_BLOCK: usize = 4096;
 
-/// To build the automaton, for each state. Measured on lists of 2,000 and 4,096, not varied.
+/// To build the automaton, for each state for which it has room. Measured on lists of 2,000 and 4,096, not varied.
 pub(crate) const STATE_PRICE: usize = 3000;
 
 /// The gain of the automaton at an end of a scan, since its states list all literals there. Measured on ten lists: 390

@@ -23,10 +23,10 @@ returns-in_err-stop-in-ShiftOr-default-clause-hits c = record {
       absurd (false≢true ((rw (ap (λ (w : Walk). w.literals) c.after-ends-in-ShiftOr-default.ensures ∙ c.self.view_is ∙ c.tune_if_due.ensures ∙ c.requires.plan) at c.in_err-stop-in-ShiftOr-default.ensures.quiet) none));
 }
 
-pub returns-in_err-stop-in_default-clause-hits : goal.returns-in_err-stop-in_default-clause-hits
-returns-in_err-stop-in_default-clause-hits c = record {
+pub returns-in_err-stop-in-Prefilter-default-clause-hits : goal.returns-in_err-stop-in-Prefilter-default-clause-hits
+returns-in_err-stop-in-Prefilter-default-clause-hits c = record {
   ok = search rules;
   same_hits = search rules;
   quiet = λ none.
-      absurd (false≢true ((rw (ap (λ (w : Walk). w.literals) c.prefilter_ends-ends.ensures) at c.in_err-stop-in_default.ensures.quiet) none));
+      absurd (false≢true ((rw (ap (λ (w : Walk). w.literals) c.prefilter_ends-ends.ensures) at c.in_err-stop-in-Prefilter-default.ensures.quiet) none));
 }
