@@ -52,7 +52,7 @@ impl Found {
 pub enum End {
     /// They came up to the end, or as far as they are wanted.
     Clean,
-    /// A read failed, or there are too many bytes.
+    /// A read failed, the end did not come in `MAX_TURNS` reads, or there are too many bytes.
     Fault,
 }
 

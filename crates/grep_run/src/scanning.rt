@@ -46,7 +46,7 @@ pub fn picker_for<'a>(request: &Request<'a>, finder: Option<EndFinder>) -> Picke
 }
 
 /// Whether lines are written, and not names, counts or nothing.
-fn shows_lines(options: &GrepOptions) -> bool
+pub fn shows_lines(options: &GrepOptions) -> bool
     ensures { result ≡ are_shown options.now }
 {
     !(options.quiet || options.list || options.count)
@@ -158,7 +158,7 @@ fn feed<'a, W: ByteOut>(
     ensures plan { picker.new.plan ≡ picker.old.plan }
     ensures flag { W.has_failed out.new ≡ (W.has_failed out.old || is_write_fault result) }
 {
-    tune_if(is_long, request, picker)?;
+    tune_if(is_long, request, picker);
     match picker.feed(piece, block) {
         Ok(Next::More) => {
             block.write(out)?;
@@ -170,23 +170,19 @@ fn feed<'a, W: ByteOut>(
     }
 }
 
-/// Gives a picker a finder from now on, if the input is long. Measured when a finder's tables were written at once: to
-/// make it took half a millisecond, as much as a whole run over a small input.
-fn tune_if<'a>(
-    is_long: bool,
-    request: &Request<'a>,
-    picker: &mut Picker<'a>,
-) -> Result<(), AllocError>
+/// Gives a picker a finder from now on, if the input is long and there is memory for one. Measured when a finder's
+/// tables were written at once, and not since they are written late: to make it took half a millisecond, as much as a
+/// whole run over a small input.
+fn tune_if<'a>(is_long: bool, request: &Request<'a>, picker: &mut Picker<'a>)
     requires { picker.old.plan ≡ request.now.patterns.now.plan }
     ensures { picker.new ≡ record picker.old { tunes = picker.new.tunes } }
 {
     if !is_long || picker.tunes() {
-        return Ok(());
+        return;
     }
-    if let Some(finder) = finder_for(request)? {
+    if let Ok(Some(finder)) = finder_for(request) {
         picker.tune_by(finder);
     }
-    Ok(())
 }
 
 /// Takes the last line of an input, if no newline ends it.

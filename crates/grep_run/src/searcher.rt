@@ -1,5 +1,5 @@
 //! Inputs searched one after another: their blocks, their messages, and what was found.
-ghost use Rattle.std.specs.Prelude.{◌≡◌, ◌<◌, ◌≤◌, ◌||◌, ◌&&◌, [], IfOk, IfSome, IsOk, None, OnErr, OnOk, Some, false, if◌then◌else◌, map, not, string_bytes, true, vec_len};
+ghost use Rattle.std.specs.Prelude.{◌≡◌, ◌+◌, ◌<◌, ◌≤◌, ◌||◌, ◌&&◌, [], IfOk, IfSome, IsOk, None, OnErr, OnOk, Some, false, if◌then◌else◌, map, not, string_bytes, true, vec_len};
 ghost use Rattle.std.proofs.Props.{props};
 ghost use Rattle.byte_io.specs.Sources.{Content, IsShort, ask_of, coming_of};
 ghost use Rattle.byte_io.specs.Devices.{IfKnown};
@@ -16,7 +16,7 @@ use crate::message::say_unreadable;
 use crate::names::shown_name;
 use crate::options::GrepOptions;
 use crate::request::{Found, Request};
-use crate::scanning::{picker_for, read_lines};
+use crate::scanning::{picker_for, read_lines, shows_lines};
 use crate::status::Stop;
 use crate::tuning::MANY_INPUTS;
 use byte_io::{ByteIn, ByteOut, Opener, open_operand};
@@ -64,25 +64,17 @@ pub fn search_all<O: Opener, W: ByteOut, E: ByteOut>(
     searcher.search_operands(opener, out, err)
 }
 
-/// How many bytes are read at once: fewer where long names are shown, so that the held text stays small also where all
-/// lines are empty.
-fn read_size(options: &GrepOptions) -> usize
+/// How many bytes of the input of this name are read at once: fewer where lines are shown after a long name, so that
+/// the held text stays small also where all lines are empty.
+fn read_size(options: &GrepOptions, name: &str) -> usize
     ensures least { LEAST_READ_SIZE ≤ result }
     ensures most { result ≤ READ_SIZE }
 {
-    let line = longest_name(options).saturating_add(NUMBER_SIZE);
-    (MOST_HELD / line).clamp(LEAST_READ_SIZE, READ_SIZE)
-}
-
-/// The length of the longest name that lines are shown after.
-fn longest_name(options: &GrepOptions) -> usize {
-    let mut longest = 0;
-    if options.operands.len() > 1 {
-        for operand in options.operands.as_slice() {
-            longest = longest.max(shown_name(operand.as_str()).len());
-        }
+    if options.operands.len() <= 1 || !shows_lines(options) {
+        return READ_SIZE;
     }
-    longest
+    let line = name.len().saturating_add(NUMBER_SIZE);
+    (MOST_HELD / line).clamp(LEAST_READ_SIZE, READ_SIZE)
 }
 
 /// Searches inputs one after another. All share one buffer to read into and one to write from.
@@ -96,7 +88,7 @@ struct Searcher<'a> {
     block: Block<'a>,
     /// Memory for a piece, after the unused bytes.
     memory: Vec<u8>,
-    ghost room: { UNUSED < vec_len memory },
+    ghost room: { vec_len memory ≡ UNUSED + READ_SIZE },
     ghost plan: { IfSome finder (λ list. list_of request.patterns.now.plan ≡ Some list) } by { Prim.hlevel props },
 }
 
@@ -105,7 +97,7 @@ impl<'a> Searcher<'a> {
     fn new(request: Request<'a>) -> Result<Searcher<'a>, AllocError>
         ensures { IfOk result (λ searcher. searcher.request ≡ request.entry) }
     {
-        let memory = vec![in request.alloc; 0u8; UNUSED + read_size(request.options)]?;
+        let memory = vec![in request.alloc; 0u8; UNUSED + READ_SIZE]?;
         let block = Block::new(request.alloc, request.options);
         Ok(Searcher {
             request,
@@ -186,7 +178,8 @@ impl<'a> Searcher<'a> {
         let mut picker = picker_for(&self.request, self.finder.take());
         let is_long_run = self.searched >= MANY_INPUTS;
         self.searched = self.searched.saturating_add(1);
-        let piece = &mut self.memory.as_mut_slice()[UNUSED..];
+        let size = read_size(self.request.options, name);
+        let piece = &mut self.memory.as_mut_slice()[UNUSED..UNUSED + size];
         let end = read_lines(
             &self.request,
             is_long_run,

@@ -9,11 +9,11 @@ use std::alloc::{AllocError, AllocFailed};
 /// How a run of grep ends. POSIX.1-2017 `grep`, EXIT STATUS.
 #[derive(Clone, Copy, Debug, PartialEq, Eq)]
 pub enum Status {
-    /// A line was selected, and there was no error: 0.
+    /// A line was selected, and there was no error or -q was given: 0.
     Selected,
     /// No line was selected, and there was no error: 1.
     NoneSelected,
-    /// There was an error: 2.
+    /// There was an error, and under -q no line was selected: 2.
     Trouble,
 }
 

@@ -1,16 +1,11 @@
--- Without memory for a finder, nothing of the piece is written; and else picker and block stand after one more piece.
+-- Picker and block stand after one more piece.
 use Rattle.std.proofs.lemmas.Result.{err_from_is_err_and}
 use Rattle.grep_run.proofs.ScanLemmas.{fed-cut, fed-halted, fed-on, fed-starved, feeds-as, stands-tuned}
 use Rattle.grep_run.proofs.scanning.feed.Goals as goal
 
-pub returns-in_err-tune_if-clause-answer : goal.returns-in_err-tune_if-clause-answer
-returns-in_err-tune_if-clause-answer g c =
-    let p = err_from_is_err_and c.from_residual.result c.from_residual.ensures.1 in
-    rw p.1 (λ o test name text before s. fed-starved c.args.piece.now c.tune_if.new.picker c.args.block.now _ s)
-
 pub returns-in_err-write-in-Ok-More-clause-answer : goal.returns-in_err-write-in-Ok-More-clause-answer
 returns-in_err-write-in-Ok-More-clause-answer g c =
-    let p = err_from_is_err_and c.from_residual-in_err-write-in-Ok-More.result c.from_residual-in_err-write-in-Ok-More.ensures.1 in
+    let p = err_from_is_err_and c.from_residual.result c.from_residual.ensures.1 in
     rw p.1 (λ o test name text before s.
     let t = stands-tuned c.tune_if.ensures s in
     fed-cut c.args.piece.now c.feed.new.self c.feed.new.sink _ t _ (feeds-as c.in-Ok-More.field-0-is (c.in-Ok-More.ensures.running t.fed.state)) c.in_err-write-in-Ok-More.ensures.err)
