@@ -10,11 +10,10 @@ use crate::fault::Fault;
 use crate::halt::Halt;
 use crate::matcher::{LineRule, LineSearch, Matcher, is_literal};
 use crate::sink::Sink;
-use crate::tuning::{HIT_BYTES, MOST_HITS_IN_A_ROW, SHORT_LINE_HIT_BYTES};
+use crate::tuning::{HIT_BYTES, MOST_HITS_IN_A_ROW, MOST_SEARCHED_WHOLE, SHORT_LINE_HIT_BYTES};
 use crate::whole_lines::WholeLines;
 use lit_plan::Compiled;
 use text_lines::{HitLines, count_newlines, has_short_lines};
-use text_search::MOST_WITHOUT_FINDER;
 
 /// Emits the selected lines among those that a newline ends in the text, by the method that should take less time.
 /// Returns how many lines there are by its end, if they are numbered; `before` lines stand before it. Without numbers,
@@ -47,8 +46,7 @@ pub(crate) fn emit_text<S: Sink>(
         return emit_all_if(matcher.rule.invert, text, before, is_numbered, sink);
     };
     let are_short = has_short_lines(text);
-    // To split and compare each line took 0.6 ns a byte in English text, and to search for 30 of its words 4.5 ns.
-    if matcher.rule.whole && compiled.list().len() > MOST_WITHOUT_FINDER && !are_short {
+    if matcher.rule.whole && compiled.list().len() > MOST_SEARCHED_WHOLE && !are_short {
         return emit_whole_lines(compiled, matcher.rule, text, before, sink);
     }
     let hit_bytes = if are_short {

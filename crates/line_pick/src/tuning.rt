@@ -2,12 +2,18 @@
 
 // Bytes of a text.
 
-/// Bytes. A hit and its line take as long as splitting this many bytes into lines. Measured in English text: 120 ns for
-/// a hit of one literal, 0.5 ns a byte for splitting. With 1,000 literals a hit takes ten times as long.
+/// Bytes. Under -x a hit of at most `MOST_SEARCHED_WHOLE` literals and its line take as long as splitting this many
+/// bytes into lines. Measured in English text: 120 ns for a hit of one literal, 0.5 ns a byte for splitting.
 pub(crate) const HIT_BYTES: usize = 256;
 
 /// Bytes. The same where lines are short: measured, a byte of them takes four times as long to split.
 pub(crate) const SHORT_LINE_HIT_BYTES: usize = 64;
+
+// Literals.
+
+/// Literals. Under -x a longer list is not searched for: each line is split and compared, unless lines are short.
+/// Measured in English text: that took 0.6 ns a byte, and a search for 30 of its words 4.5 ns.
+pub(crate) const MOST_SEARCHED_WHOLE: usize = 3;
 
 // Hits.
 
