@@ -25,6 +25,7 @@ pub fn scan_all(alloc: Global, compiled: &Compiled, text: &[u8]) -> Result<Vec<H
     // Where nothing ends in the text, it takes no memory.
     ensures quiet { NoEndAfter compiled.now.literals text.now 0 → IsOk result }
 {
+    // Read here, the bound on the lengths of literals is known below.
     let _carry = compiled.carry();
     let hits = scan_after(&mut PrefilterSearch, alloc, compiled, text, 0)?;
     Ok(hits)
@@ -50,6 +51,7 @@ pub fn scan_after<S: HitSearch>(
     // Where nothing ends after the position, it takes no memory.
     ensures quiet { NoEndAfter compiled.now.literals text.now from → IsOk result }
 {
+    // Read here, the bound on the lengths of literals is known below.
     let _carry = compiled.carry();
     let mut hits = Vec::new(alloc);
     scan_until(search, compiled, text, from, usize::MAX, &mut hits)?;
@@ -95,6 +97,7 @@ pub fn scan_pieces(
     ensures too_long { 2 ^ 64 ≤ length (concat (bytes_of pieces.now)) → IsErr result }
 {
     least_law(compiled);
+    // Read here, the bound on the lengths of literals is known below.
     let _carry = compiled.carry();
     let mut scanner = Scanner::new(alloc, compiled)?;
     let mut hits = Vec::new(alloc);
@@ -110,5 +113,6 @@ pub fn pieces_law(list: &LitList, pieces: &[Vec<u8>])
     requires { 0 < length list.now.texts }
     ensures { PiecesLaw list.now (bytes_of pieces.now) }
 {
+    // Read here, the bound on the lengths of literals is known below.
     let _carry = carry(list);
 }

@@ -17,7 +17,7 @@ use text_search::{EndFinder, make_if_long};
 pub struct TunedPlan {
     plan: Arc<Compiled>,
     finder: Option<EndFinder>,
-    /// How many bytes its scans were given.
+    /// How many bytes its scans have passed.
     bytes: u64,
 }
 
@@ -73,9 +73,11 @@ impl TunedPlan {
         ensures hits { AddsHits self.old.literals text.now from from most out.old.items out.new.items result }
         ensures refused { IsOkUnless result OutOfMemory }
     {
-        self.bytes = self.bytes.saturating_add((text.len() - from) as u64);
         let compiled: &Compiled = &self.plan;
-        make_if_long(&mut self.finder, alloc, compiled, self.bytes);
-        scan_until(&mut self.finder, compiled, text, from, most, out)
+        let ahead = self.bytes.saturating_add((text.len() - from) as u64);
+        make_if_long(&mut self.finder, alloc, compiled, ahead);
+        let stop = scan_until(&mut self.finder, compiled, text, from, most, out)?;
+        self.bytes = self.bytes.saturating_add((stop - from) as u64);
+        Ok(stop)
     }
 }

@@ -36,6 +36,7 @@ pub fn scan_parts<R: Threads + Sync, G: Gate>(
     // Where nothing ends in the text, it needs no memory.
     ensures quiet { NoEndAfter compiled.now.literals text.now 0 → IsOk result }
 {
+    // Read here, the bound on the lengths of literals is known below.
     let _carry = compiled.carry();
     if workers == 1 {
         return scan_part(alloc, gate, compiled, text, 0, 1);

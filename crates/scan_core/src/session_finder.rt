@@ -102,14 +102,17 @@ impl SessionFinder {
         }
     }
 
-    /// Makes a finder by the plan of a ticket where there is none, or the finder of another plan is out of use.
+    /// Makes a finder by the plan of a ticket where there is none, or the finder of another plan is out of use. That one
+    /// stays if none is made.
     fn make_if_due(&mut self, alloc: Global, store: &PlanStore, ticket: &Ticket)
         requires own { IfSome self.old (IsOf store.now) }
         requires ticket { IsOf store.now ticket.now }
         ensures { IfSome self.new (IsOf store.now) }
     {
         if self.own.is_none() || self.fed_to_others >= MOST_FED_TO_OTHERS {
-            self.own = TicketFinder::by_plan_of(alloc, store, ticket);
+            if let Some(own) = TicketFinder::by_plan_of(alloc, store, ticket) {
+                self.own = Some(own);
+            }
             self.fed_to_others = 0;
         }
     }

@@ -130,6 +130,7 @@ impl<'s> Stream<'s> {
             (λ place. (place ≡ self.now.1.scan.place + length piece.now) × (place < 2 ^ 64)) }
         ensures kept { IsKept self.now.1.scan }
     {
+        // Read here, the bound on the lengths of literals is known below.
         let _carry = self.plan.carry();
         self.scanner.place().checked_add(piece.len() as u64)
     }
