@@ -80,6 +80,7 @@ pub record AnnouncesLiterals (payload : List ℕ) : Type 0 where
   pub count : ℕ
   pub rest : List ℕ
   pub some : 0 < count
+  pub small : count < 2 ^ 16
   pub payload_is : payload ≡ flags_of fold profile ∷ (u16_text count ++ rest)
 
 -- a Publish that announces literals: the only frame that takes memory while it is read
