@@ -44,7 +44,8 @@ pub data Reports (endings : List (Option Ended)) (faulty : Bool) (status : Statu
   Starved : 0 < length endings → status ≡ Trouble → Appends out_old out_new [] → SaysOrFails err_had_failed err_failed err_old err_new out_of_memory
       → Reports endings faulty status out_failed err_had_failed err_failed out_old out_new err_old err_new
 
--- Connections were served and reported: all of them, or fewer where accepting failed.
+-- The ends of connections were reported: as many as were asked for, or at most as many where accepting failed. That they
+-- are the ends of the connections that were served is by reading.
 pub record ReportsSome (connections : ℕ) (status : Status) (out_failed err_had_failed err_failed : Bool) (out_old out_new err_old err_new : Option (List ℕ)) : Type 0 where
   pub endings : List (Option Ended)
   pub faulty : Bool

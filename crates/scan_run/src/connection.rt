@@ -36,7 +36,7 @@ pub(crate) fn serve_connection<R: Wait>(
         &mut FromRead::new(&stream),
         &mut ToWrite::new(&stream),
     );
-    if ended == Ended::Bad {
+    if ended == Ended::Bad || ended == Ended::OutOfMemory {
         drain(&stream);
     }
     ended

@@ -113,8 +113,9 @@ fn serve_beside<'s, R: Wait, I: ByteIn, O: ByteOut>(
 /// After `WriteFault` and `OutOfMemory` it is of no use any more.
 ///
 /// Whatever the requests, it holds at most 262,180 bytes of input and 106,506 bytes of replies, which are written once
-/// they are 65,536. It also holds a few thousand hits, a finder for long streams, up to 9.4 MiB, the plans that it
-/// publishes, and the tails of its streams. Only a Publish may wait for another thread.
+/// they are 65,536. It also holds a few thousand hits, the literals of the Publish that it answers, a finder for long
+/// streams, up to 9.4 MiB, the plans that it publishes, and the tails of its streams. Only a Publish may wait for another
+/// thread.
 pub fn serve_session<'s, R: Wait, I: ByteIn, O: ByteOut>(
     rt: &R,
     alloc: Global,

@@ -16,4 +16,3 @@ pub use ended::Ended;
 pub use outbox::Outbox;
 pub use serving::serve;
 pub use stop::Stop;
-pub use window::Window;

@@ -95,8 +95,8 @@ fn turns<S: Answer, R: ByteIn, W: ByteOut>(
 /// Serves a stream to its end: reads requests, and answers each in order. The replies to all frames
 /// that are whole are written before the next read.
 ///
-/// It needs one buffer of 262,180 bytes for input and one for replies, whatever the requests are.
-/// After `MAX_TURNS` reads it ends as if a read had failed.
+/// It needs one buffer of 262,180 bytes for input, one for replies, and the literals of the Publish that it answers,
+/// whatever the requests are. After `MAX_TURNS` reads it ends as if a read had failed.
 pub fn serve<S: Answer, R: ByteIn, W: ByteOut>(
     alloc: Global,
     session: &mut S,

@@ -18,7 +18,7 @@ const FIRST_ROOM: usize = 73_728;
 /// Bytes that were read and not yet answered, in one buffer that is made once. A small part of it is
 /// used at first, and more as reads fill it: memory that is never written is only set aside.
 #[derive(Drop)]
-pub struct Window {
+pub(crate) struct Window {
     buffer: Vec<u8>,
     len: usize,
 }

@@ -28,7 +28,7 @@ abbrev pub ReportsPort : ℕ → Option (List ℕ) → Option (List ℕ) → Typ
 ReportsPort port err_old err_new =
     ((port ≡ 0) × (chosen : ℕ) × Appends err_old err_new (port_line chosen)) ⊎ ((port ≢ 0) × (err_new ≡ err_old))
 
--- This number of connections to a port were served and reported, once the port was reported. Or the message on why
+-- The ends of this number of connections to a port were reported, once the port was reported. Or the message on why
 -- there were none was written, and nothing else was done. Or the port that the system chose could not be written.
 pub data ServesPort (port connections : ℕ) (status : Status) (out_failed err_failed : Bool) (out_old out_new err_old err_new : Option (List ℕ)) : Type 0 where
   Reported : (err_mid : Option (List ℕ)) (had_failed : Bool) → ReportsPort port err_old err_mid → ReportsSome connections status out_failed had_failed err_failed out_old out_new err_mid err_new
@@ -38,7 +38,8 @@ pub data ServesPort (port connections : ℕ) (status : Status) (out_failed err_f
   Unserved : status ≡ Trouble → Appends out_old out_new [] → Says err_failed err_old err_new (cannot_listen port) ⊎ Says err_failed err_old err_new out_of_memory
       → ServesPort port connections status out_failed err_failed out_old out_new err_old err_new
 
--- one client was served over a store, beside the loaded plans; or connections to a port were, and nothing was read
+-- one client was served over a store, beside the loaded plans; or the ends of connections to a port were reported, and
+-- nothing was read
 abbrev pub Serves : Service → Shelves → List tickets.TicketParts → Status → Type 0 → Bool → Bool → Option Coming → Option Coming → Option (List ℕ) → Option (List ℕ) → Option (List ℕ) → Option (List ℕ) → Type 0
 Serves Alone store loaded status read_fault out_failed err_failed coming_old coming_new out_old out_new err_old err_new =
     EndsAlone store loaded status read_fault out_failed coming_old coming_new out_old out_new × (err_new ≡ err_old)

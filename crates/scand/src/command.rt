@@ -38,7 +38,7 @@ where
         → (O.has_failed out.new || E.has_failed err.new) ≡ (O.has_failed out.old || E.has_failed err.old) }
 {
     match asked(rt) {
-        Ok(request) => run(rt, rt.alloc(), &request, files, input, out, err),
+        Ok(request) => run(rt, &request, files, input, out, err),
         Err(fault) => refuse(&fault, err),
     }
 }
@@ -52,7 +52,6 @@ fn asked<R: Env + AllocGlobal>(rt: &R) -> Result<Request, Fault> {
 /// that fails, nothing is served.
 fn run<R, F: Opener, I: ByteIn, O: ByteOut, E: ByteOut>(
     rt: &R,
-    alloc: Global,
     request: &Request,
     files: &mut F,
     input: &mut I,
@@ -60,7 +59,7 @@ fn run<R, F: Opener, I: ByteIn, O: ByteOut, E: ByteOut>(
     err: &mut E,
 ) -> Status
 where
-    R: Threads + Wait + Sync + Net<Listener = TcpListener, Stream = TcpStream>,
+    R: AllocGlobal + Threads + Wait + Sync + Net<Listener = TcpListener, Stream = TcpStream>,
     ensures runs { Runs request.now result (F.sources files.old) (F.sources files.new)
         (MayHaveFailed (I.has_failed input.new) (I.given input.old) (I.given input.new)) (O.has_failed out.new) (E.has_failed err.new)
         (I.coming input.old) (I.coming input.new) (O.written out.old) (O.written out.new) (E.written err.old) (E.written err.new) }
@@ -68,6 +67,7 @@ where
     ensures fault { result ≡ Status.Clean
         → (O.has_failed out.new || E.has_failed err.new) ≡ (O.has_failed out.old || E.has_failed err.old) }
 {
+    let alloc = rt.alloc();
     let Ok(store) = PlanStore::new(alloc) else {
         return refuse(&Fault::OutOfMemory, err);
     };
@@ -75,7 +75,6 @@ where
     match load_files(rt, alloc, &store, files, &request.plans, &mut tickets, err) {
         Ok(()) => serve_over(
             rt,
-            alloc,
             &store,
             tickets.as_slice(),
             request.service,
@@ -90,7 +89,6 @@ where
 /// Serves one client or connections, over a store beside its loaded plans.
 fn serve_over<R, I: ByteIn, O: ByteOut, E: ByteOut>(
     rt: &R,
-    alloc: Global,
     store: &PlanStore,
     loaded: &[Ticket],
     service: Service,
@@ -99,7 +97,7 @@ fn serve_over<R, I: ByteIn, O: ByteOut, E: ByteOut>(
     err: &mut E,
 ) -> Status
 where
-    R: Threads + Wait + Sync + Net<Listener = TcpListener, Stream = TcpStream>,
+    R: AllocGlobal + Threads + Wait + Sync + Net<Listener = TcpListener, Stream = TcpStream>,
     requires here { All (IsOf store.now) loaded.now }
     ensures serves { Serves service store.now loaded.now result
         (MayHaveFailed (I.has_failed input.new) (I.given input.old) (I.given input.new)) (O.has_failed out.new) (E.has_failed err.new)
@@ -109,9 +107,9 @@ where
         → (O.has_failed out.new || E.has_failed err.new) ≡ (O.has_failed out.old || E.has_failed err.old) }
 {
     match service {
-        Service::Alone => serve_alone(rt, alloc, store, loaded, input, out),
+        Service::Alone => serve_alone(rt, rt.alloc(), store, loaded, input, out),
         Service::Listen { port, connections } => {
-            serve_port(rt, alloc, store, loaded, port, connections, out, err)
+            serve_port(rt, store, loaded, port, connections, out, err)
         }
     }
 }
@@ -119,7 +117,6 @@ where
 /// Serves connections to a port of this machine. The system chooses it where it is 0.
 fn serve_port<R, O: ByteOut, E: ByteOut>(
     rt: &R,
-    alloc: Global,
     store: &PlanStore,
     loaded: &[Ticket],
     port: u16,
@@ -128,7 +125,7 @@ fn serve_port<R, O: ByteOut, E: ByteOut>(
     err: &mut E,
 ) -> Status
 where
-    R: Threads + Wait + Sync + Net<Listener = TcpListener, Stream = TcpStream>,
+    R: AllocGlobal + Threads + Wait + Sync + Net<Listener = TcpListener, Stream = TcpStream>,
     requires here { All (IsOf store.now) loaded.now }
     ensures serves { ServesPort port connections.count result (O.has_failed out.new) (E.has_failed err.new)
         (O.written out.old) (O.written out.new) (E.written err.old) (E.written err.new) }
@@ -136,12 +133,21 @@ where
         → (O.has_failed out.new || E.has_failed err.new) ≡ (O.has_failed out.old || E.has_failed err.old) }
 {
     let Ok(listener) = TcpListener::bind(rt, (Ipv4Addr::LOCALHOST, port)) else {
-        return refuse(&Fault::usage(cannot_listen(alloc, port)), err);
+        return refuse(&Fault::usage(cannot_listen(rt.alloc(), port)), err);
     };
     if port == 0 {
-        serve_chosen(rt, alloc, store, loaded, listener, connections, out, err)
+        serve_chosen(rt, store, loaded, listener, connections, out, err)
     } else {
-        listen(rt, alloc, store, loaded, listener, connections, out, err)
+        listen(
+            rt,
+            rt.alloc(),
+            store,
+            loaded,
+            listener,
+            connections,
+            out,
+            err,
+        )
     }
 }
 
@@ -149,7 +155,6 @@ where
 /// nothing is served.
 fn serve_chosen<R, O: ByteOut, E: ByteOut>(
     rt: &R,
-    alloc: Global,
     store: &PlanStore,
     loaded: &[Ticket],
     listener: TcpListener,
@@ -158,7 +163,7 @@ fn serve_chosen<R, O: ByteOut, E: ByteOut>(
     err: &mut E,
 ) -> Status
 where
-    R: Threads + Wait + Sync + Net<Listener = TcpListener, Stream = TcpStream>,
+    R: AllocGlobal + Threads + Wait + Sync + Net<Listener = TcpListener, Stream = TcpStream>,
     requires here { All (IsOf store.now) loaded.now }
     ensures serves { ServesPort 0 connections.count result (O.has_failed out.new) (E.has_failed err.new)
         (O.written out.old) (O.written out.new) (E.written err.old) (E.written err.new) }
@@ -166,10 +171,19 @@ where
         → (O.has_failed out.new || E.has_failed err.new) ≡ (O.has_failed out.old || E.has_failed err.old) }
 {
     let Ok(chosen) = listener.local_addr() else {
-        return refuse(&Fault::usage(cannot_listen(alloc, 0)), err);
+        return refuse(&Fault::usage(cannot_listen(rt.alloc(), 0)), err);
     };
     match say_port(chosen.port(), err) {
-        Ok(()) => listen(rt, alloc, store, loaded, listener, connections, out, err),
+        Ok(()) => listen(
+            rt,
+            rt.alloc(),
+            store,
+            loaded,
+            listener,
+            connections,
+            out,
+            err,
+        ),
         Err(Failed) => Status::Trouble,
     }
 }
@@ -181,7 +195,7 @@ fn cannot_listen(alloc: Global, port: u16) -> Result<String, AllocError>
     format!(in alloc; "scand: cannot listen on port {port}\n")
 }
 
-/// Writes the message on words that are refused. Where that cannot be written, only the status shows it.
+/// Writes the message on why nothing is served. If it cannot be written, only the status shows it.
 fn refuse<E: ByteOut>(fault: &Fault, err: &mut E) -> Status
     ensures status { result ≡ Status.Trouble }
     ensures said { Says (E.has_failed err.new) (E.written err.old) (E.written err.new) (message_on out_of_memory fault.now) }
@@ -190,7 +204,8 @@ fn refuse<E: ByteOut>(fault: &Fault, err: &mut E) -> Status
     Status::Trouble
 }
 
-/// Writes the message on words that are refused. If a write fails, a prefix of it may be written.
+/// Writes the message on a fault: words that are refused, a port that cannot be listened on, or want of memory. If a
+/// write fails, a prefix of it may be written.
 fn say_fault<E: ByteOut>(fault: &Fault, err: &mut E)
     ensures { Says (E.has_failed err.new) (E.written err.old) (E.written err.new) (message_on out_of_memory fault.now) }
 {

@@ -29,8 +29,8 @@ Usage: scand --port P --connections N [--plans FILE]...
 All clients share the plans that they publish, each under its number. scand
 answers each frame before it waits for the next frame. It keeps the last bytes
 of each stream that a hit may need and, once a stream is long, up to 16 KiB to
-tune its search. Besides its plans and streams, a client takes up to 1.3 MiB,
-or up to 9.8 MiB where matches are dense. A client may wait for as long as it
+tune its search. Besides its plans and streams, a client takes up to 1.2 MiB,
+or up to 9.7 MiB where matches are dense. A client may wait for as long as it
 likes. If you want a limit, enforce it in front of the server.
 
 A plan file, as `litplan pack` writes it, holds up to 64 plans, each with its
