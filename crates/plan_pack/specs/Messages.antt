@@ -4,7 +4,7 @@ use Rattle.lit_base.specs.Faults.{number_of}
 use Rattle.plan_pack.specs.declared.stop.Refusal.{Refusal}
 use Rattle.plan_pack.specs.declared.stop.Refusal.TheVariants.{NoCertificate, NoLiterals, NoPlan, NoPlanFile, NotHex, Patterns, Unusable}
 
--- on a file that cannot be opened or read
+-- on a file that cannot be opened, made, read or written
 abbrev pub unusable : List ℕ → List ℕ
 unusable name = codes "litplan: " ++ (name ++ codes ": cannot be used\n")
 

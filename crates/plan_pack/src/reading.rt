@@ -189,7 +189,7 @@ fn text_from<'a, I: ByteIn>(
     match read_to_end(input, usize::MAX, &mut text) {
         Ok(()) => Ok(text),
         Err(ReadError::Failed) => Err(Stop::Refused(Refusal::Unusable(operand))),
-        // No list is that long.
+        // No vector has more than `usize::MAX` bytes.
         Err(ReadError::TooLong) => unreachable!(),
         Err(ReadError::OutOfMemory) => Err(Stop::OutOfMemory),
     }
