@@ -29,7 +29,7 @@ use std::alloc::Global;
 /// - `TOO_MANY_PATTERNS`, `LITERAL_TOO_LONG` or `LIST_TOO_LARGE`, whichever the patterns in order give first. After
 ///   `LITERAL_TOO_LONG`, `fault_at` is the position of the pattern; otherwise it is 0.
 /// - `NO_LITERALS`, where no pattern has a byte.
-/// - `OUT_OF_MEMORY`, where a growth was refused. Only then may `literal_of` have changed.
+/// - `OUT_OF_MEMORY`, where a growth was refused.
 #[unsafe(no_mangle)]
 pub extern "C" fn fiolargu_plan_new(
     alloc: Global,
@@ -44,7 +44,7 @@ pub extern "C" fn fiolargu_plan_new(
     ensures numbers { result ≡ OK → length patterns.now ≤ length literal_of.old
         → AreNumbersOf flags (bytes_of patterns.now) (take (length patterns.now) literal_of.new) }
     ensures after { drop (length patterns.now) literal_of.new ≡ drop (length patterns.now) literal_of.old }
-    ensures unwritten { (result ≡ OK → ⊥) → (result ≡ OUT_OF_MEMORY → ⊥) → literal_of.new ≡ literal_of.old }
+    ensures unwritten { (result ≡ OK → ⊥) → literal_of.new ≡ literal_of.old }
     ensures same { (result ≡ OK → ⊥) → plan.new.held ≡ plan.old.held }
     ensures fault { result ≡ LITERAL_TOO_LONG → first_refusal 0 0 (bytes_of patterns.now) ≡ Some (LiteralTooLong fault_at.new) }
     ensures no_fault { (result ≡ LITERAL_TOO_LONG → ⊥) → fault_at.new ≡ 0 }
@@ -73,8 +73,11 @@ pub extern "C" fn fiolargu_plan_new(
     };
     match plan_of(alloc, &raw, flags as u8) {
         Ok((made, places)) => {
-            write_numbers(&places, literal_of);
-            set_plan(plan, alloc, made)
+            let status = set_plan(plan, alloc, made);
+            if status == OK {
+                write_numbers(&places, literal_of);
+            }
+            status
         }
         Err(status) => status,
     }
