@@ -74,10 +74,11 @@ pub extern "C" fn fiolargu_plan_new(
     match plan_of(alloc, &raw, flags as u8) {
         Ok((made, places)) => {
             let status = set_plan(plan, alloc, made);
-            if status == OK {
-                write_numbers(&places, literal_of);
+            if status != OK {
+                return status;
             }
-            status
+            write_numbers(&places, literal_of);
+            OK
         }
         Err(status) => status,
     }
