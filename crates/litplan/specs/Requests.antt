@@ -10,8 +10,13 @@ use Rattle.lit_base.specs.declared.profile.Profile.TheVariants.{Eight, Sixteen}
 use Rattle.plan_pack.specs.declared.notation.Notation.{Notation}
 use Rattle.plan_pack.specs.declared.notation.Notation.TheVariants.{Bytes, Hex}
 use Rattle.plan_pack.specs.declared.notation.Reading.{Reading}
+use Rattle.plan_run.specs.declared.request.HitLine.TheVariants.{End, Literal}
+use Rattle.plan_run.specs.declared.request.Listing.{Listing}
+use Rattle.plan_run.specs.declared.request.Listing.TheVariants.{Count, Lines}
 use Rattle.plan_run.specs.declared.request.Request.{Request}
 use Rattle.plan_run.specs.declared.request.Request.TheVariants.{Check, CheckPlan, Explain, ExplainCertificate, ExplainPlan, Migrate, Pack, Plan, Scan}
+use Rattle.plan_run.specs.declared.request.View.{View}
+use Rattle.plan_run.specs.declared.request.View.TheVariants.{Drawing, Text}
 use Rattle.program_words.specs.Matches.{IsNumber, texts_of}
 
 -- the text of an argument, empty where it has none
@@ -44,6 +49,26 @@ pub record IsNotation (m : ArgMatches) (notation : Notation) : Type 0 where
   pub no : one_text (found_of m) (codes "hex") ≡ Some (codes "false") → notation ≡ Bytes
   pub unused : one_text (found_of m) (codes "hex") ≡ None → notation ≡ Bytes
 
+-- how a plan is shown, by the flag that asks for a drawing
+pub record IsView (m : ArgMatches) (view : View) : Type 0 where
+  pub yes : one_text (found_of m) (codes "svg") ≡ Some (codes "true") → view ≡ Drawing
+  pub no : one_text (found_of m) (codes "svg") ≡ Some (codes "false") → view ≡ Text
+  pub unused : one_text (found_of m) (codes "svg") ≡ None → view ≡ Text
+
+-- what is written of hits: their number, or lines with their literals, or lines with their ends
+abbrev pub listing_of : Bool → Bool → Listing
+listing_of true names = Count
+listing_of false true = Lines Literal
+listing_of false false = Lines End
+
+-- what is written of hits, by the flags that ask for it
+pub record IsListing (m : ArgMatches) (listing : Listing) : Type 0 where
+  pub count : Bool
+  pub names : Bool
+  pub counts : IsFlag m (codes "count") count
+  pub named : IsFlag m (codes "names") names
+  pub is : listing ≡ listing_of count names
+
 -- how files of patterns are read
 pub record IsReading (m : ArgMatches) (reading : Reading) : Type 0 where
   pub notation : IsNotation m reading.notation
@@ -61,10 +86,10 @@ IsRequestOf name m (Check r) = (name ≡ codes "check") × (is_given m (codes "p
 IsRequestOf name m (CheckPlan file place) = (name ≡ codes "check") × (is_given m (codes "plan") ≡ true) × (string_bytes file ≡ text_of m (codes "plan")) × IsPlace m place
 IsRequestOf name m (Pack r) = (name ≡ codes "pack") × IsReading m r.reading × (r.profile ≡ profile_of m) × (map string_bytes r.files.names.items ≡ texts_of m (codes "file"))
     × (string_bytes r.output ≡ text_of m (codes "output"))
-IsRequestOf name m (Explain r) = (name ≡ codes "explain") × (is_given m (codes "plan") ≡ false) × (is_given m (codes "certificate") ≡ false) × IsReading m r.reading × (r.profile ≡ profile_of m) × IsFlag m (codes "svg") r.svg × (string_bytes r.file ≡ text_of m (codes "file"))
-IsRequestOf name m (ExplainPlan svg file place) = (name ≡ codes "explain") × (is_given m (codes "plan") ≡ true) × IsFlag m (codes "svg") svg × (string_bytes file ≡ text_of m (codes "plan")) × IsPlace m place
+IsRequestOf name m (Explain r) = (name ≡ codes "explain") × (is_given m (codes "plan") ≡ false) × (is_given m (codes "certificate") ≡ false) × IsReading m r.reading × (r.profile ≡ profile_of m) × IsView m r.view × (string_bytes r.file ≡ text_of m (codes "file"))
+IsRequestOf name m (ExplainPlan view file place) = (name ≡ codes "explain") × (is_given m (codes "plan") ≡ true) × IsView m view × (string_bytes file ≡ text_of m (codes "plan")) × IsPlace m place
 IsRequestOf name m (ExplainCertificate certificate) = (name ≡ codes "explain") × (is_given m (codes "plan") ≡ false) × (is_given m (codes "certificate") ≡ true)
     × (string_bytes certificate ≡ text_of m (codes "certificate"))
 IsRequestOf name m (Migrate input output) = (name ≡ codes "migrate") × (string_bytes input ≡ text_of m (codes "input")) × (string_bytes output ≡ text_of m (codes "output"))
-IsRequestOf name m (Scan scan) = (name ≡ codes "scan") × IsReading m scan.reading × IsNumber m (codes "workers") scan.workers.count × IsFlag m (codes "count") scan.count × IsFlag m (codes "names") scan.names
+IsRequestOf name m (Scan scan) = (name ≡ codes "scan") × IsReading m scan.reading × IsNumber m (codes "workers") scan.workers.count × IsListing m scan.listing
     × (string_bytes scan.file ≡ text_of m (codes "file")) × (string_bytes scan.input ≡ text_of m (codes "input"))

@@ -1,14 +1,14 @@
 //! The words of the command line, read with clap.
 ghost use Rattle.std.specs.Prelude.{◌≡◌, IfOk, IfSome, codes, string_bytes};
 ghost use Rattle.program_words.specs.Matches.{IsNumber};
-ghost use Rattle.litplan.specs.Requests.{IsFlag, IsFold, IsNotation, IsPlace, IsReading, IsRequestOf, profile_of, text_of};
+ghost use Rattle.litplan.specs.Requests.{IsFlag, IsFold, IsListing, IsNotation, IsPlace, IsReading, IsRequestOf, IsView, profile_of, text_of};
 
 use crate::help::{CHECK_HELP, EXPLAIN_HELP, MIGRATE_HELP, PACK_HELP, PLAN_HELP, SCAN_HELP};
 use clap::{Arg, ArgAction, ArgMatches, Command, value_parser};
 use lit_base::{Fold, Profile};
 use plan_run::{
-    CheckRequest, ExplainRequest, Notation, PackRequest, PatternFiles, PlanRequest, Reading,
-    Request, Scan, Workers,
+    CheckRequest, ExplainRequest, HitLine, Listing, Notation, PackRequest, PatternFiles,
+    PlanRequest, Reading, Request, ScanRequest, View, Workers,
 };
 use program_words::{Fault, VERSION, matches_of, strings, values, with_arg, with_subcommand};
 use std::alloc::{AllocError, Global};
@@ -94,7 +94,7 @@ fn explain_of(alloc: Global, found: &ArgMatches<'_>) -> Result<Request, Fault>
 {
     if found.contains_id("plan") {
         return Ok(Request::ExplainPlan {
-            svg: flag_of(found, "svg"),
+            view: view_of(found),
             file: value(alloc, found, "plan")?,
             place: place_of(alloc, found)?,
         });
@@ -106,7 +106,7 @@ fn explain_of(alloc: Global, found: &ArgMatches<'_>) -> Result<Request, Fault>
     Ok(Request::Explain(ExplainRequest {
         reading: reading_of(found),
         profile: profile_of(found),
-        svg: flag_of(found, "svg"),
+        view: view_of(found),
         file: value(alloc, found, "file")?,
     }))
 }
@@ -132,17 +132,16 @@ fn number_of(found: &ArgMatches<'_>) -> Option<usize>
 }
 
 /// The scan in clap's matches.
-fn scan_of(alloc: Global, found: &ArgMatches<'_>) -> Result<Scan, Fault>
+fn scan_of(alloc: Global, found: &ArgMatches<'_>) -> Result<ScanRequest, Fault>
     ensures { IfOk result (λ scan. IsRequestOf (codes "scan") found.now (Request.Scan scan)) }
 {
     let Some(workers) = workers_of(found) else {
         return Err(Fault::usage(String::from_str(alloc, "litplan: no such number of workers\n")));
     };
-    Ok(Scan {
+    Ok(ScanRequest {
         reading: reading_of(found),
         workers,
-        count: flag_of(found, "count"),
-        names: flag_of(found, "names"),
+        listing: listing_of(found),
         file: value(alloc, found, "file")?,
         input: value(alloc, found, "input")?,
     })
@@ -189,6 +188,30 @@ fn fold_of(matches: &ArgMatches<'_>) -> Fold
         Fold::Ascii
     } else {
         Fold::No
+    }
+}
+
+/// How a plan is shown, by the flag `svg`.
+fn view_of(matches: &ArgMatches<'_>) -> View
+    ensures { IsView matches.now result }
+{
+    if flag_of(matches, "svg") {
+        View::Drawing
+    } else {
+        View::Text
+    }
+}
+
+/// What is written of the hits, by the flags `count` and `names`. clap lets at most one of them through.
+fn listing_of(matches: &ArgMatches<'_>) -> Listing
+    ensures { IsListing matches.now result }
+{
+    let count = flag_of(matches, "count");
+    let names = flag_of(matches, "names");
+    match (count, names) {
+        (true, _) => Listing::Count,
+        (false, true) => Listing::Lines(HitLine::Literal),
+        (false, false) => Listing::Lines(HitLine::End),
     }
 }
 

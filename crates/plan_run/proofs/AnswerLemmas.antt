@@ -34,6 +34,8 @@ use Rattle.plan_pack.proofs.AskLemmas.{asks-all, asks-stopped}
 use Rattle.plan_pack.proofs.MigrateLemmas.{false-if, true-if}
 use Rattle.plan_run.specs.Answers.{Answer, AnswersCheck, AnswersExplain, AnswersExplainCertificate, AnswersInput, AnswersList, AnswersPlan, AnswersPlanAt, AnswersScan, AnswersUnless, AreHitsReported, BadLine, HasList, HasPlans, IsCertificateAnswer, IsCertificateReported, IsCheckAnswer, IsExplainAnswer, IsNoList, IsPlanAnswer, IsPlanAnswerAt, Judged, NoFile, NoList, Unread, certificate_source, check_asks, input_source, refused_with, refuses, scan_asks, printed, where_wrong, wrong_at_line}
 use Rattle.plan_run.specs.Running.{Begun, Silent, Reports, ReportsStop, Writes}
+use Rattle.plan_run.specs.declared.request.Listing.{Listing}
+use Rattle.plan_run.specs.declared.request.View.{View}
 use Rattle.plan_run.specs.declared.status.Status.{Status}
 
 -- a text that was written is an answer for which P holds
@@ -138,53 +140,53 @@ check-stopped reading file certificate known mid stop out reads =
     ))
 
 -- the hits in an input that is read
-pub input-had : (list : Literals) (count names : Bool) (input : List ℕ) (known left : Option Sources) (text : Vec ℕ) (r : Result Status Stop) (old new : Option (List ℕ))
-    → IfKnown known left (λ s l. AreShort s → (l ≡ after (ask_of input) s) × TakesText input (taken_by (ask_of input) s) (Ok text)) → Reports (AreHitsReported list count names text.items) r old new
-    → IfKnown known left (λ s l. AreShort s → (l ≡ after (ask_of input) s) × Reports (AnswersInput list count names input (taken_by (ask_of input) s)) r old new)
-input-had list count names input known left text r old new reads reports =
-    IfKnown-weaker known left _ (λ s l. AreShort s → (l ≡ after (ask_of input) s) × Reports (AnswersInput list count names input (taken_by (ask_of input) s)) r old new) reads (λ s l h short.
+pub input-had : (list : Literals) (listing : Listing) (input : List ℕ) (known left : Option Sources) (text : Vec ℕ) (r : Result Status Stop) (old new : Option (List ℕ))
+    → IfKnown known left (λ s l. AreShort s → (l ≡ after (ask_of input) s) × TakesText input (taken_by (ask_of input) s) (Ok text)) → Reports (AreHitsReported list listing text.items) r old new
+    → IfKnown known left (λ s l. AreShort s → (l ≡ after (ask_of input) s) × Reports (AnswersInput list listing input (taken_by (ask_of input) s)) r old new)
+input-had list listing input known left text r old new reads reports =
+    IfKnown-weaker known left _ (λ s l. AreShort s → (l ≡ after (ask_of input) s) × Reports (AnswersInput list listing input (taken_by (ask_of input) s)) r old new) reads (λ s l h short.
     let taken = h short in
     let source : Option Content = taken_by (ask_of input) s in
-    (taken.0, reports-unless (input_message input source) (AreHitsReported list count names (text_in source)) r old new taken.1.0 (subst (λ t. Reports (AreHitsReported list count names t) r old new) taken.1.1 reports)))
+    (taken.0, reports-unless (input_message input source) (AreHitsReported list listing (text_in source)) r old new taken.1.0 (subst (λ t. Reports (AreHitsReported list listing t) r old new) taken.1.1 reports)))
 
 -- and of an input that was not read
-pub input-stopped : (list : Literals) (count names : Bool) (input : List ℕ) (known left : Option Sources) (stop : Stop) (out : Option (List ℕ))
+pub input-stopped : (list : Literals) (listing : Listing) (input : List ℕ) (known left : Option Sources) (stop : Stop) (out : Option (List ℕ))
     → IfKnown known left (λ s l. AreShort s → (l ≡ after (ask_of input) s) × TakesText input (taken_by (ask_of input) s) (Err stop))
-    → IfKnown known left (λ s l. AreShort s → (l ≡ after (ask_of input) s) × Reports (AnswersInput list count names input (taken_by (ask_of input) s)) (Err stop) out out)
-input-stopped list count names input known left stop out reads =
-    IfKnown-weaker known left _ (λ s l. AreShort s → (l ≡ after (ask_of input) s) × Reports (AnswersInput list count names input (taken_by (ask_of input) s)) (Err stop) out out) reads (λ s l h short.
+    → IfKnown known left (λ s l. AreShort s → (l ≡ after (ask_of input) s) × Reports (AnswersInput list listing input (taken_by (ask_of input) s)) (Err stop) out out)
+input-stopped list listing input known left stop out reads =
+    IfKnown-weaker known left _ (λ s l. AreShort s → (l ≡ after (ask_of input) s) × Reports (AnswersInput list listing input (taken_by (ask_of input) s)) (Err stop) out out) reads (λ s l h short.
     let taken = h short in
     let source : Option Content = taken_by (ask_of input) s in
-    (taken.0, reports-reason (input_message input source) (AreHitsReported list count names (text_in source)) stop out taken.1))
+    (taken.0, reports-reason (input_message input source) (AreHitsReported list listing (text_in source)) stop out taken.1))
 
 -- the scan of an input by a plan that is had
-pub scan-had : (reading : Reading) (count names : Bool) (file input : List ℕ) (known mid left : Option Sources) (plan : Plan) (r : Result Status Stop) (old new : Option (List ℕ))
+pub scan-had : (reading : Reading) (listing : Listing) (file input : List ℕ) (known mid left : Option Sources) (plan : Plan) (r : Result Status Stop) (old new : Option (List ℕ))
     → IfKnown known mid (λ s m. AreShort s → (m ≡ after (ask_of file) s) × TakesPlan reading Eight file (taken_by (ask_of file) s) (Ok plan))
-    → IfKnown mid left (λ m l. AreShort m → (l ≡ after (ask_of input) m) × Reports (AnswersInput plan.literals count names input (taken_by (ask_of input) m)) r old new)
-    → IfKnown known left (λ s l. AreShort s → Asks r (scan_asks reading file input s) s l × Reports (AnswersScan reading count names file input s) r old new)
-scan-had reading count names file input known mid left plan r old new reads scans =
-    IfKnown-then known mid left _ _ (λ s l. AreShort s → Asks r (scan_asks reading file input s) s l × Reports (AnswersScan reading count names file input s) r old new) reads scans (λ s m l h g short.
+    → IfKnown mid left (λ m l. AreShort m → (l ≡ after (ask_of input) m) × Reports (AnswersInput plan.literals listing input (taken_by (ask_of input) m)) r old new)
+    → IfKnown known left (λ s l. AreShort s → Asks r (scan_asks reading file input s) s l × Reports (AnswersScan reading listing file input s) r old new)
+scan-had reading listing file input known mid left plan r old new reads scans =
+    IfKnown-then known mid left _ _ (λ s l. AreShort s → Asks r (scan_asks reading file input s) s l × Reports (AnswersScan reading listing file input s) r old new) reads scans (λ s m l h g short.
     let taken = h short in
     let scanned = g (subst AreShort (sym taken.0) (short-after (ask_of file) s short)) in
     let message : Option (List ℕ) = plan_message reading file (taken_by (ask_of file) s) in
     let list : Literals = list_in reading (taken_by (ask_of file) s) in
     let made : l ≡ after_all (ask_of file ∷ ask_of input ∷ []) s = scanned.0 ∙ ap (after (ask_of input)) taken.0 in
-    let reports = subst (λ x. Reports (AnswersInput plan.literals count names input (taken_by (ask_of input) x)) r old new) taken.0 scanned.1 in
-    let answer = AnswersInput list count names input (input_source file input s) in (
+    let reports = subst (λ x. Reports (AnswersInput plan.literals listing input (taken_by (ask_of input) x)) r old new) taken.0 scanned.1 in
+    let answer = AnswersInput list listing input (input_source file input s) in (
       asks-all r (scan_asks reading file input s) s l (made ∙ ap (λ asks. after_all asks s) (sym (asks-both file (ask_of input) message taken.1.0))),
-      reports-unless message answer r old new taken.1.0 (subst (λ ls. Reports (AnswersInput ls count names input (input_source file input s)) r old new) taken.1.1.literals reports),
+      reports-unless message answer r old new taken.1.0 (subst (λ ls. Reports (AnswersInput ls listing input (input_source file input s)) r old new) taken.1.1.literals reports),
     ))
 
 -- and by a file without a plan
-pub scan-stopped : (reading : Reading) (count names : Bool) (file input : List ℕ) (known mid : Option Sources) (stop : Stop) (out : Option (List ℕ))
+pub scan-stopped : (reading : Reading) (listing : Listing) (file input : List ℕ) (known mid : Option Sources) (stop : Stop) (out : Option (List ℕ))
     → IfKnown known mid (λ s left. AreShort s → (left ≡ after (ask_of file) s) × TakesPlan reading Eight file (taken_by (ask_of file) s) (Err stop))
-    → IfKnown known mid (λ s left. AreShort s → Asks {T = Status} (Err stop) (scan_asks reading file input s) s left × Reports (AnswersScan reading count names file input s) (Err stop) out out)
-scan-stopped reading count names file input known mid stop out reads =
-    IfKnown-weaker known mid _ (λ s left. AreShort s → Asks {T = Status} (Err stop) (scan_asks reading file input s) s left × Reports (AnswersScan reading count names file input s) (Err stop) out out) reads (λ s left h short.
+    → IfKnown known mid (λ s left. AreShort s → Asks {T = Status} (Err stop) (scan_asks reading file input s) s left × Reports (AnswersScan reading listing file input s) (Err stop) out out)
+scan-stopped reading listing file input known mid stop out reads =
+    IfKnown-weaker known mid _ (λ s left. AreShort s → Asks {T = Status} (Err stop) (scan_asks reading file input s) s left × Reports (AnswersScan reading listing file input s) (Err stop) out out) reads (λ s left h short.
     let taken = h short in
     let message : Option (List ℕ) = plan_message reading file (taken_by (ask_of file) s) in (
       asks-stopped Status file (ask_of input ∷ []) message stop s left taken.1 taken.0,
-      reports-reason message (AnswersInput (list_in reading (taken_by (ask_of file) s)) count names input (input_source file input s)) stop out taken.1,
+      reports-reason message (AnswersInput (list_in reading (taken_by (ask_of file) s)) listing input (input_source file input s)) stop out taken.1,
     ))
 
 -- ---- a list and its certificate
@@ -249,17 +251,17 @@ judged wrong P name certificate r old new (Some x) (Some y) c found clean report
 -- ---- a plan that is explained
 
 -- the plan of a list that is had
-pub explain-had : (reading : Reading) (profile : Profile) (svg : Bool) (file : List ℕ) (known mid : Option Sources) (found : Literals × Normal) (r : Result Status Stop) (old new : Option (List ℕ))
+pub explain-had : (reading : Reading) (profile : Profile) (view : View) (file : List ℕ) (known mid : Option Sources) (found : Literals × Normal) (r : Result Status Stop) (old new : Option (List ℕ))
     → IfKnown known mid (λ s left. AreShort s → (left ≡ after (ask_of file) s) × TakesPlaces reading file (taken_by (ask_of file) s) (Ok found))
-    → ((patterns : List (List ℕ)) → ArePlaces found.0 patterns found.1.place_of.items → Reports (IsExplainAnswer profile found.0 svg patterns) r old new)
-    → IfKnown known mid (λ s left. AreShort s → Asks r (ask_of file ∷ []) s left × Reports (AnswersExplain reading profile svg file s) r old new)
-explain-had reading profile svg file known mid found r old new reads reports =
-    IfKnown-weaker known mid _ (λ s left. AreShort s → Asks r (ask_of file ∷ []) s left × Reports (AnswersExplain reading profile svg file s) r old new) reads (λ s left h short.
+    → ((patterns : List (List ℕ)) → ArePlaces found.0 patterns found.1.place_of.items → Reports (IsExplainAnswer profile found.0 view patterns) r old new)
+    → IfKnown known mid (λ s left. AreShort s → Asks r (ask_of file ∷ []) s left × Reports (AnswersExplain reading profile view file s) r old new)
+explain-had reading profile view file known mid found r old new reads reports =
+    IfKnown-weaker known mid _ (λ s left. AreShort s → Asks r (ask_of file ∷ []) s left × Reports (AnswersExplain reading profile view file s) r old new) reads (λ s left h short.
     let taken = h short in
     let source : Option Content = taken_by (ask_of file) s in
-    let printed = subst (λ list. Reports (IsExplainAnswer profile list svg (patterns_in reading source)) r old new) taken.1.1 (reports (patterns_in reading source) taken.1.2) in (
+    let printed = subst (λ list. Reports (IsExplainAnswer profile list view (patterns_in reading source)) r old new) taken.1.1 (reports (patterns_in reading source) taken.1.2) in (
       asks-all r (ask_of file ∷ []) s left taken.0,
-      reports-weaker (IsExplainAnswer profile (list_in reading source) svg (patterns_in reading source)) (AnswersExplain reading profile svg file s) r old new (λ a right. HasList taken.1.0 right) printed,
+      reports-weaker (IsExplainAnswer profile (list_in reading source) view (patterns_in reading source)) (AnswersExplain reading profile view file s) r old new (λ a right. HasList taken.1.0 right) printed,
     ))
 
 -- the report of a stop, where it is right of each refusal that the stop may be
@@ -286,18 +288,18 @@ no-list reading file source WriteFault why named other e = absurd (cc)
 no-list reading file source OutOfMemory why named other e = absurd (cc)
 
 -- and of a file without a list
-pub explain-stopped : (reading : Reading) (profile : Profile) (svg : Bool) (file : List ℕ) (known mid : Option Sources) (stop : Stop) (r : Result Status Stop) (old new : Option (List ℕ))
+pub explain-stopped : (reading : Reading) (profile : Profile) (view : View) (file : List ℕ) (known mid : Option Sources) (stop : Stop) (r : Result Status Stop) (old new : Option (List ℕ))
     → IfKnown known mid (λ s left. AreShort s → (left ≡ after (ask_of file) s) × TakesPlaces reading file (taken_by (ask_of file) s) (Err stop))
     → IfKnown known mid (λ s left. AreShort s → NamesStop reading (taken_by (ask_of file) s) stop)
     → ReportsStop stop r old new
-    → IfKnown known mid (λ s left. AreShort s → Asks r (ask_of file ∷ []) s left × Reports (AnswersExplain reading profile svg file s) r old new)
-explain-stopped reading profile svg file known mid stop r old new reads names reports =
-    IfKnown-weaker known mid _ (λ s left. AreShort s → Asks r (ask_of file ∷ []) s left × Reports (AnswersExplain reading profile svg file s) r old new)
+    → IfKnown known mid (λ s left. AreShort s → Asks r (ask_of file ∷ []) s left × Reports (AnswersExplain reading profile view file s) r old new)
+explain-stopped reading profile view file known mid stop r old new reads names reports =
+    IfKnown-weaker known mid _ (λ s left. AreShort s → Asks r (ask_of file ∷ []) s left × Reports (AnswersExplain reading profile view file s) r old new)
     (both known mid (λ s left. AreShort s → (left ≡ after (ask_of file) s) × TakesPlaces reading file (taken_by (ask_of file) s) (Err stop)) (λ s left. AreShort s → NamesStop reading (taken_by (ask_of file) s) stop) reads names) (λ s left h short.
     let taken = h.0 short in
     let source : Option Content = taken_by (ask_of file) s in (
       asks-all r (ask_of file ∷ []) s left taken.0,
-      reports-flaw (AnswersExplain reading profile svg file s) stop r old new (λ refusal is. NoList refusal (no-list reading file source stop taken.1 (h.1 short) refusal is) refl) reports,
+      reports-flaw (AnswersExplain reading profile view file s) stop r old new (λ refusal is. NoList refusal (no-list reading file source stop taken.1 (h.1 short) refusal is) refl) reports,
     ))
 
 -- ---- a plan of a plan file

@@ -12,6 +12,7 @@ use Rattle.plan_run.specs.Running.{Answers, Reports}
 use Rattle.plan_run.specs.declared.request.ExplainRequest.{ExplainRequest}
 use Rattle.plan_run.specs.declared.request.Request.{Request}
 use Rattle.plan_run.specs.declared.request.Request.TheVariants.{CheckPlan, Explain, ExplainCertificate, ExplainPlan}
+use Rattle.plan_run.specs.declared.request.View.{View}
 use Rattle.plan_run.specs.declared.status.Status.{Status}
 
 -- what is asked for and answered under one name
@@ -33,19 +34,19 @@ check-plan-answers written has_failed file place from known left r old new here 
     (λ s l asked reports. record { asks = asked; reports = reports }) answers
 
 pub explain-answers : {O : Type 0} (written : O → Option (List ℕ)) (has_failed : O → Bool) (request : ExplainRequest) (known left : Option Sources) (r : Result Status Stop) (old new : Option (List ℕ))
-    → IfKnown known left (λ s l. AreShort s → Asks r (ask_of (string_bytes request.file) ∷ []) s l × Reports (AnswersExplain request.reading request.profile request.svg (string_bytes request.file) s) r old new)
+    → IfKnown known left (λ s l. AreShort s → Asks r (ask_of (string_bytes request.file) ∷ []) s l × Reports (AnswersExplain request.reading request.profile request.view (string_bytes request.file) s) r old new)
     → IfKnown known left (λ s l. AreShort s → Answers written has_failed (Explain request) s l r old new)
 explain-answers written has_failed request known left r old new answers =
     IfKnown-weaker known left _ (λ s l. AreShort s → Answers written has_failed (Explain request) s l r old new) answers (λ s l h short.
     let t = h short in
     record { asks = t.0; reports = t.1 })
 
-pub explain-plan-answers : {O : Type 0} (written : O → Option (List ℕ)) (has_failed : O → Bool) (svg : Bool) (file : String Global) (place : ℕ) (from : List ℕ) (known left : Option Sources) (r : Result Status Stop) (old new : Option (List ℕ))
+pub explain-plan-answers : {O : Type 0} (written : O → Option (List ℕ)) (has_failed : O → Bool) (view : View) (file : String Global) (place : ℕ) (from : List ℕ) (known left : Option Sources) (r : Result Status Stop) (old new : Option (List ℕ))
     → from ≡ string_bytes file
-    → IfKnown known left (λ s l. AreShort s → Asks r (ask_of from ∷ []) s l × Reports (AnswersExplainPlan svg from place s) r old new)
-    → IfKnown known left (λ s l. AreShort s → Answers written has_failed (ExplainPlan svg file place) s l r old new)
-explain-plan-answers written has_failed svg file place from known left r old new here answers =
-    of-name written has_failed (ExplainPlan svg file place) (λ n s. ask_of n ∷ []) (λ n s. AnswersExplainPlan svg n place s) from (string_bytes file) known left r old new here
+    → IfKnown known left (λ s l. AreShort s → Asks r (ask_of from ∷ []) s l × Reports (AnswersExplainPlan view from place s) r old new)
+    → IfKnown known left (λ s l. AreShort s → Answers written has_failed (ExplainPlan view file place) s l r old new)
+explain-plan-answers written has_failed view file place from known left r old new here answers =
+    of-name written has_failed (ExplainPlan view file place) (λ n s. ask_of n ∷ []) (λ n s. AnswersExplainPlan view n place s) from (string_bytes file) known left r old new here
     (λ s l asked reports. record { asks = asked; reports = reports }) answers
 
 pub explain-certificate-answers : {O : Type 0} (written : O → Option (List ℕ)) (has_failed : O → Bool) (certificate : String Global) (from : List ℕ) (known left : Option Sources) (r : Result Status Stop) (old new : Option (List ℕ))

@@ -25,9 +25,13 @@ use Rattle.plan_pack.specs.PlanFiles.{HoldsPrefix, HoldsPlans}
 use Rattle.plan_pack.specs.declared.notation.Reading.{Reading}
 use Rattle.plan_pack.specs.declared.stop.Refusal.{Refusal}
 use Rattle.plan_pack.specs.declared.stop.Refusal.TheVariants.{NoLiterals}
-use Rattle.plan_run.specs.Messages.{certificate_head, hits_text, not_certified, optimal, wrong_input, wrong_line}
+use Rattle.plan_run.specs.Listings.{hits_text}
+use Rattle.plan_run.specs.Messages.{certificate_head, not_certified, optimal, wrong_input, wrong_line}
+use Rattle.plan_run.specs.declared.request.Listing.{Listing}
 use Rattle.plan_run.specs.declared.request.Request.{Request}
 use Rattle.plan_run.specs.declared.request.Request.TheVariants.{Check, CheckPlan, Explain, ExplainCertificate, ExplainPlan, Migrate, Pack, Plan, Scan}
+use Rattle.plan_run.specs.declared.request.View.{View}
+use Rattle.plan_run.specs.declared.request.View.TheVariants.{Drawing, Text}
 use Rattle.plan_run.specs.declared.status.Status.{Status}
 use Rattle.plan_run.specs.declared.status.Status.TheVariants.{Done, NotCertified, Trouble, Wrong}
 
@@ -109,24 +113,24 @@ AnswersCheck reading file certificate s =
     AnswersList reading file (taken_by (ask_of file) s) (λ list. IsCheckAnswer list certificate (certificate_source file certificate s))
 
 -- on a list and a text: the hits of the whole text, with their literals or without; or their number
-pub record AreHitsReported (list : Literals) (count names : Bool) (text : List ℕ) (a : Answer) : Type 0 where
+pub record AreHitsReported (list : Literals) (listing : Listing) (text : List ℕ) (a : Answer) : Type 0 where
   pub hits : List (ℕ × ℕ)
   pub right : IsHits list text hits
-  pub is : a ≡ printed (hits_text count names list hits) Done
+  pub is : a ≡ printed (hits_text listing list hits) Done
 
 -- on a list and an input: the message where the input cannot be read; else its hits
-abbrev pub AnswersInput : Literals → Bool → Bool → List ℕ → Option Content → Answer → Type 0
-AnswersInput list count names name source = AnswersUnless (input_message name source) (AreHitsReported list count names (text_in source))
+abbrev pub AnswersInput : Literals → Listing → List ℕ → Option Content → Answer → Type 0
+AnswersInput list listing name source = AnswersUnless (input_message name source) (AreHitsReported list listing (text_in source))
 
 -- the input, once there is a plan
 abbrev pub input_source : List ℕ → List ℕ → Sources → Option Content
 input_source file input s = taken_by (ask_of input) (after (ask_of file) s)
 
 -- to scan
-abbrev pub AnswersScan : Reading → Bool → Bool → List ℕ → List ℕ → Sources → Answer → Type 0
-AnswersScan reading count names file input s =
+abbrev pub AnswersScan : Reading → Listing → List ℕ → List ℕ → Sources → Answer → Type 0
+AnswersScan reading listing file input s =
     AnswersUnless (plan_message reading file (taken_by (ask_of file) s))
-    (AnswersInput (list_in reading (taken_by (ask_of file) s)) count names input (input_source file input s))
+    (AnswersInput (list_in reading (taken_by (ask_of file) s)) listing input (input_source file input s))
 
 -- on plans and the name of their file, which can be made or not: nothing is printed where it was made and holds them;
 -- the message where it cannot be made, or where a write to it failed, so that it holds a prefix alone
@@ -148,21 +152,22 @@ AnswersPack written has_failed reading profile names output s =
 
 -- a list that is cut at these ends for plans of a profile, whose patterns stand at these places: its drawing where that
 -- is asked for, else its text
-abbrev pub explained : Profile → Bool → Literals → List ℕ → List (Option ℕ) → List ℕ
-explained profile svg list ends places = if svg then plan_svg profile list ends else plan_text profile list ends places
+abbrev pub explained : Profile → View → Literals → List ℕ → List (Option ℕ) → List ℕ
+explained profile Text list ends places = plan_text profile list ends places
+explained profile Drawing list ends places = plan_svg profile list ends
 
 -- on the list of the patterns: the view of the first of its cheapest cuts into as many runs as there are buckets
-pub record IsExplained (profile : Profile) (list : Literals) (svg : Bool) (patterns : List (List ℕ)) (a : Answer) : Type 0 where
+pub record IsExplained (profile : Profile) (list : Literals) (view : View) (patterns : List (List ℕ)) (a : Answer) : Type 0 where
   pub ends : List ℕ
   pub places : List (Option ℕ)
   pub first : IsFirstCut (run_cost (lengths list)) (buckets profile) (length list.texts) ends
   pub placed : ArePlaces list patterns places
-  pub is : a ≡ printed (explained profile svg list ends places) Done
+  pub is : a ≡ printed (explained profile view list ends places) Done
 
 -- likewise, or that there is nothing to explain
-pub data IsExplainAnswer (profile : Profile) (list : Literals) (svg : Bool) (patterns : List (List ℕ)) (a : Answer) : Type 0 where
-  Unplanned : length list.texts ≡ 0 → a ≡ where_wrong NoLiterals → IsExplainAnswer profile list svg patterns a
-  Explained : IsExplained profile list svg patterns a → IsExplainAnswer profile list svg patterns a
+pub data IsExplainAnswer (profile : Profile) (list : Literals) (view : View) (patterns : List (List ℕ)) (a : Answer) : Type 0 where
+  Unplanned : length list.texts ≡ 0 → a ≡ where_wrong NoLiterals → IsExplainAnswer profile list view patterns a
+  Explained : IsExplained profile list view patterns a → IsExplainAnswer profile list view patterns a
 
 -- the refusal of a file that gives no list
 pub record IsNoList (reading : Reading) (name : List ℕ) (source : Option Content) (refusal : Refusal) : Type 0 where
@@ -170,14 +175,14 @@ pub record IsNoList (reading : Reading) (name : List ℕ) (source : Option Conte
   pub names : NamesRefused reading source refusal
 
 -- to explain a file of patterns by its content: where it is wrong, or its plan
-pub data ExplainsList (reading : Reading) (profile : Profile) (svg : Bool) (name : List ℕ) (source : Option Content) (a : Answer) : Type 0 where
-  NoList : (refusal : Refusal) → IsNoList reading name source refusal → a ≡ where_wrong refusal → ExplainsList reading profile svg name source a
-  HasList : list_message reading name source ≡ None → IsExplainAnswer profile (list_in reading source) svg (patterns_in reading source) a
-      → ExplainsList reading profile svg name source a
+pub data ExplainsList (reading : Reading) (profile : Profile) (view : View) (name : List ℕ) (source : Option Content) (a : Answer) : Type 0 where
+  NoList : (refusal : Refusal) → IsNoList reading name source refusal → a ≡ where_wrong refusal → ExplainsList reading profile view name source a
+  HasList : list_message reading name source ≡ None → IsExplainAnswer profile (list_in reading source) view (patterns_in reading source) a
+      → ExplainsList reading profile view name source a
 
 -- to explain a file of patterns
-abbrev pub AnswersExplain : Reading → Profile → Bool → List ℕ → Sources → Answer → Type 0
-AnswersExplain reading profile svg file s a = ExplainsList reading profile svg file (taken_by (ask_of file) s) a
+abbrev pub AnswersExplain : Reading → Profile → View → List ℕ → Sources → Answer → Type 0
+AnswersExplain reading profile view file s a = ExplainsList reading profile view file (taken_by (ask_of file) s) a
 
 -- on the plans of a file of this name: that it has none of this number, or the answer about the one
 pub data IsPlanAnswerAt (P : plan.Plan → Answer → Type 0) (name : List ℕ) (place : ℕ) (plans : List plan.Plan) (a : Answer) : Type 0 where
@@ -194,12 +199,12 @@ abbrev pub AnswersCheckPlan : List ℕ → ℕ → Sources → Answer → Type 0
 AnswersCheckPlan file place s a = AnswersPlanAt refuses (λ p. IsVerdict p.literals p.certificate) file place (taken_by (ask_of file) s) a
 
 -- the answer about a plan that is explained: its drawing or its text
-abbrev pub IsPlanExplained : Bool → plan.Plan → Answer → Type 0
-IsPlanExplained svg p a = a ≡ printed (explained p.certificate.profile svg p.literals p.certificate.ends []) Done
+abbrev pub IsPlanExplained : View → plan.Plan → Answer → Type 0
+IsPlanExplained view p a = a ≡ printed (explained p.certificate.profile view p.literals p.certificate.ends []) Done
 
 -- to explain a plan of a plan file
-abbrev pub AnswersExplainPlan : Bool → List ℕ → ℕ → Sources → Answer → Type 0
-AnswersExplainPlan svg file place s a = AnswersPlanAt where_wrong (IsPlanExplained svg) file place (taken_by (ask_of file) s) a
+abbrev pub AnswersExplainPlan : View → List ℕ → ℕ → Sources → Answer → Type 0
+AnswersExplainPlan view file place s a = AnswersPlanAt where_wrong (IsPlanExplained view) file place (taken_by (ask_of file) s) a
 
 -- where a certificate is explained: which line is wrong
 abbrev pub wrong_at_line : ℕ → Answer
@@ -231,11 +236,11 @@ IsAnswerTo written has_failed (Plan r) s a = AnswersPlan r.reading r.profile (st
 IsAnswerTo written has_failed (Check r) s a = AnswersCheck r.reading (string_bytes r.file) (string_bytes r.certificate) s a
 IsAnswerTo written has_failed (CheckPlan file place) s a = AnswersCheckPlan (string_bytes file) place s a
 IsAnswerTo written has_failed (Pack r) s a = AnswersPack written has_failed r.reading r.profile (map string_bytes r.files.names.items) (string_bytes r.output) s a
-IsAnswerTo written has_failed (Explain r) s a = AnswersExplain r.reading r.profile r.svg (string_bytes r.file) s a
-IsAnswerTo written has_failed (ExplainPlan svg file place) s a = AnswersExplainPlan svg (string_bytes file) place s a
+IsAnswerTo written has_failed (Explain r) s a = AnswersExplain r.reading r.profile r.view (string_bytes r.file) s a
+IsAnswerTo written has_failed (ExplainPlan view file place) s a = AnswersExplainPlan view (string_bytes file) place s a
 IsAnswerTo written has_failed (ExplainCertificate certificate) s a = AnswersExplainCertificate (string_bytes certificate) s a
 IsAnswerTo written has_failed (Migrate input output) s a = AnswersMigrate written has_failed (string_bytes input) (string_bytes output) s a
-IsAnswerTo written has_failed (Scan r) s a = AnswersScan r.reading r.count r.names (string_bytes r.file) (string_bytes r.input) s a
+IsAnswerTo written has_failed (Scan r) s a = AnswersScan r.reading r.listing (string_bytes r.file) (string_bytes r.input) s a
 
 -- the asks, in order: the file of patterns, and the certificate once there is a list
 abbrev pub check_asks : Reading → List ℕ → List ℕ → Sources → List Ask
@@ -254,7 +259,7 @@ asks_of (Check r) s = check_asks r.reading (string_bytes r.file) (string_bytes r
 asks_of (CheckPlan file place) s = ask_of (string_bytes file) ∷ []
 asks_of (Pack r) s = pack_asks r.reading (map string_bytes r.files.names.items) (string_bytes r.output) s
 asks_of (Explain r) s = ask_of (string_bytes r.file) ∷ []
-asks_of (ExplainPlan svg file place) s = ask_of (string_bytes file) ∷ []
+asks_of (ExplainPlan view file place) s = ask_of (string_bytes file) ∷ []
 asks_of (ExplainCertificate certificate) s = Named (string_bytes certificate) ∷ []
 asks_of (Migrate input output) s = migrate_asks (string_bytes input) (string_bytes output)
 asks_of (Scan r) s = scan_asks r.reading (string_bytes r.file) (string_bytes r.input) s
@@ -266,7 +271,7 @@ IsLeftBy (Check r) s left = left ≡ after_all (asks_of (Check r) s) s
 IsLeftBy (CheckPlan file place) s left = left ≡ after_all (asks_of (CheckPlan file place) s) s
 IsLeftBy (Pack r) s left = left ≡ after_all (asks_of (Pack r) s) s
 IsLeftBy (Explain r) s left = left ≡ after_all (asks_of (Explain r) s) s
-IsLeftBy (ExplainPlan svg file place) s left = left ≡ after_all (asks_of (ExplainPlan svg file place) s) s
+IsLeftBy (ExplainPlan view file place) s left = left ≡ after_all (asks_of (ExplainPlan view file place) s) s
 IsLeftBy (ExplainCertificate certificate) s left = left ≡ after_all (asks_of (ExplainCertificate certificate) s) s
 IsLeftBy (Migrate input output) s left = LeavesMigrate (string_bytes input) (string_bytes output) s left
 IsLeftBy (Scan r) s left = left ≡ after_all (asks_of (Scan r) s) s

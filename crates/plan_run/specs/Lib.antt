@@ -1,4 +1,5 @@
 pub mod Answers
+pub mod Listings
 pub mod Messages
 pub mod Running
 pub mod Statuses

@@ -1,15 +1,12 @@
--- What is written: the messages on a failed write and on want of memory, where an input is wrong, the verdicts on a
--- certificate, and hits.
-use Rattle.std.specs.Prelude.{ℕ, ◌+◌, ◌-◌, Bool, List, ◌++◌, codes, decimal, flat_map, length, if◌then◌else◌, Option, None, Some}
-use Rattle.std.specs.List.{slice_get}
-use Rattle.lit_base.specs.Literals.{Literals}
+-- What is written: the messages on a failed write and on want of memory, where an input is wrong, and the verdicts on a
+-- certificate.
+use Rattle.std.specs.Prelude.{ℕ, ◌+◌, List, ◌++◌, codes, decimal, Option, None, Some}
 use Rattle.lit_base.specs.declared.fault.Fault.{Fault}
 use Rattle.lit_base.specs.declared.fault.Fault.TheVariants.{ListTooLarge, LiteralTooLong, OutOfMemory, TooManyLiterals, TooManyPatterns}
 use Rattle.lit_cert.specs.declared.reason.Reason.{Reason}
 use Rattle.lit_cert.specs.declared.reason.Reason.TheVariants.{Length, Ends, Total, EndRow, Step}
 use Rattle.plan_file.specs.declared.fault.Cause.{Cause}
 use Rattle.plan_file.specs.declared.fault.Cause.TheVariants.{Count, Flags, Literal, Magic, NotCertified, Order, Runs, Short, Trailing, Version}
-use Rattle.plan_view.specs.Quotes.{whole}
 use Rattle.plan_pack.specs.declared.stop.Refusal.{Refusal}
 use Rattle.plan_pack.specs.declared.stop.Refusal.TheVariants.{NoCertificate, NoLiterals, NoPlan, NoPlanFile, NotHex, Patterns, Unusable}
 
@@ -75,28 +72,3 @@ wrong_input (NoPlan name place) = None
 -- the head of a certificate that can be read: how many runs it has, and their cost
 abbrev pub certificate_head : ℕ → ℕ → List ℕ
 certificate_head runs cost = codes "runs " ++ (decimal runs ++ (codes ", cost " ++ (decimal cost ++ codes "\n")))
-
--- a hit, by its literal's place and the place at which it ends
-abbrev pub hit_line : ℕ × ℕ → List ℕ
-hit_line hit = decimal hit.0 ++ (codes " " ++ (decimal hit.1 ++ codes "\n"))
-
--- a hit with its literal: where it starts, and the literal itself; the hit alone where there is no literal
-abbrev pub literal_line : Option (List ℕ) → ℕ × ℕ → List ℕ
-literal_line None hit = hit_line hit
-literal_line (Some literal) hit = decimal hit.0 ++ (codes " " ++ (decimal (hit.1 - length literal) ++ (codes " " ++ (whole literal ++ codes "\n"))))
-
--- a hit of the list, with its literal where that is asked for
-abbrev pub line_of : Bool → Literals → ℕ × ℕ → List ℕ
-line_of names l hit = if names then literal_line (slice_get l.texts hit.0) hit else hit_line hit
-
--- hits, a line each
-abbrev pub hit_lines : Bool → Literals → List (ℕ × ℕ) → List ℕ
-hit_lines names l hits = flat_map (line_of names l) hits
-
--- how many there are
-abbrev pub hit_count : List (ℕ × ℕ) → List ℕ
-hit_count hits = decimal (length hits) ++ codes "\n"
-
--- the number alone where only that is wanted, else the hits
-abbrev pub hits_text : Bool → Bool → Literals → List (ℕ × ℕ) → List ℕ
-hits_text count names l hits = if count then hit_count hits else hit_lines names l hits

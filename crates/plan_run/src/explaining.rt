@@ -12,7 +12,7 @@ ghost use Rattle.plan_run.specs.Running.{Reports, is_write_fault};
 
 use crate::flaws::{report_refusal, report_stop};
 use crate::reporting::{report, report_bytes};
-use crate::request::ExplainRequest;
+use crate::request::{ExplainRequest, View};
 use crate::status::Status;
 use byte_io::{ByteIn, ByteOut, Files};
 use lit_base::{Ends, LitList, Profile};
@@ -32,14 +32,14 @@ pub fn answer_explain<'a, F: Files, W: ByteOut>(
 ) -> Result<Status, Stop<'a>>
     ensures answer { IfKnown (F.sources files.old) (F.sources files.new) (λ s left. AreShort s
         → Asks result (ask_of (string_bytes request.now.file) ∷ []) s left
-        × Reports (AnswersExplain request.now.reading request.now.profile request.now.svg (string_bytes request.now.file) s)
+        × Reports (AnswersExplain request.now.reading request.now.profile request.now.view (string_bytes request.now.file) s)
         result (W.written out.old) (W.written out.new)) }
     ensures flag { W.has_failed out.new ≡ (W.has_failed out.old || is_write_fault result) }
 {
     match placed_list_of(alloc, request.reading, request.file.as_str(), files) {
         Ok((list, normal)) => {
             let places = normal.place_of.as_slice();
-            explain_list(alloc, request.profile, request.svg, &list, places, out)
+            explain_list(alloc, request.profile, request.view, &list, places, out)
         }
         Err(stop) => report_stop(alloc, stop, out),
     }
@@ -49,18 +49,18 @@ pub fn answer_explain<'a, F: Files, W: ByteOut>(
 fn explain_list<'a, W: ByteOut>(
     alloc: Global,
     profile: Profile,
-    svg: bool,
+    view: View,
     list: &LitList,
     places: &[Option<u16>],
     out: &mut W,
 ) -> Result<Status, Stop<'a>>
     ensures answer { (patterns : List (List ℕ)) → ArePlaces list.now patterns places.now
-        → Reports (IsExplainAnswer profile list.now svg patterns) result (W.written out.old) (W.written out.new) }
+        → Reports (IsExplainAnswer profile list.now view patterns) result (W.written out.old) (W.written out.new) }
     ensures flag { W.has_failed out.new ≡ (W.has_failed out.old || is_write_fault result) }
 {
     match plan(alloc, list, profile) {
         Ok(certificate) => {
-            let text = explained(alloc, profile, svg, list, &certificate.ends, places)?;
+            let text = explained(alloc, profile, view, list, &certificate.ends, places)?;
             report_bytes(text.as_slice(), Status::Done, out)
         }
         Err(Fault::NoLiterals) => report_refusal(alloc, Refusal::NoLiterals, out),
@@ -72,25 +72,24 @@ fn explain_list<'a, W: ByteOut>(
 fn explained(
     alloc: Global,
     profile: Profile,
-    svg: bool,
+    view: View,
     list: &LitList,
     ends: &Ends,
     places: &[Option<u16>],
 ) -> Result<Vec<u8>, AllocError>
     requires { IsCut (buckets profile) (length list.now.texts) ends.now.items }
-    ensures { IfOk result (λ text. text.items ≡ explained profile svg list.now ends.now.items places.now) }
+    ensures { IfOk result (λ text. text.items ≡ explained profile view list.now ends.now.items places.now) }
 {
-    if svg {
-        plan_svg(alloc, profile, list, ends)
-    } else {
-        plan_text(alloc, profile, list, ends, places)
+    match view {
+        View::Text => plan_text(alloc, profile, list, ends, places),
+        View::Drawing => plan_svg(alloc, profile, list, ends),
     }
 }
 
 /// Writes a plan of a plan file, as a text or a drawing; or where the file is wrong.
 pub fn answer_explain_plan<'a, F: Files, W: ByteOut>(
     alloc: Global,
-    svg: bool,
+    view: View,
     file: &'a str,
     place: usize,
     files: &mut F,
@@ -98,11 +97,11 @@ pub fn answer_explain_plan<'a, F: Files, W: ByteOut>(
 ) -> Result<Status, Stop<'a>>
     ensures answer { IfKnown (F.sources files.old) (F.sources files.new) (λ s left. AreShort s
         → Asks result (ask_of file.now ∷ []) s left
-        × Reports (AnswersExplainPlan svg file.now place s) result (W.written out.old) (W.written out.new)) }
+        × Reports (AnswersExplainPlan view file.now place s) result (W.written out.old) (W.written out.new)) }
     ensures flag { W.has_failed out.new ≡ (W.has_failed out.old || is_write_fault result) }
 {
     match plans_of(alloc, file, files) {
-        Ok(plans) => explain_one(alloc, svg, file, place, plans.as_slice(), out),
+        Ok(plans) => explain_one(alloc, view, file, place, plans.as_slice(), out),
         Err(stop) => report_stop(alloc, stop, out),
     }
 }
@@ -110,18 +109,18 @@ pub fn answer_explain_plan<'a, F: Files, W: ByteOut>(
 /// Writes one of the plans of a file, as a text or a drawing.
 fn explain_one<'a, W: ByteOut>(
     alloc: Global,
-    svg: bool,
+    view: View,
     file: &'a str,
     place: usize,
     plans: &[Compiled],
     out: &mut W,
 ) -> Result<Status, Stop<'a>>
-    ensures answer { Reports (IsPlanAnswerAt (IsPlanExplained svg) file.now place plans.now) result
+    ensures answer { Reports (IsPlanAnswerAt (IsPlanExplained view) file.now place plans.now) result
         (W.written out.old) (W.written out.new) }
     ensures flag { W.has_failed out.new ≡ (W.has_failed out.old || is_write_fault result) }
 {
     match plans.get(place) {
-        Some(plan) => explain_plan(alloc, svg, plan, out),
+        Some(plan) => explain_plan(alloc, view, plan, out),
         None => Err(Stop::Refused(Refusal::NoPlan { file, place })),
     }
 }
@@ -129,18 +128,18 @@ fn explain_one<'a, W: ByteOut>(
 /// Writes a plan, as a text or a drawing. Nothing is known of dropped patterns, so none are reported.
 fn explain_plan<'a, W: ByteOut>(
     alloc: Global,
-    svg: bool,
+    view: View,
     plan: &Compiled,
     out: &mut W,
 ) -> Result<Status, Stop<'a>>
-    ensures answer { Reports (IsPlanExplained svg plan.now) result (W.written out.old) (W.written out.new) }
+    ensures answer { Reports (IsPlanExplained view plan.now) result (W.written out.old) (W.written out.new) }
     ensures flag { W.has_failed out.new ≡ (W.has_failed out.old || is_write_fault result) }
 {
     let certificate = plan.certificate();
     let text = explained(
         alloc,
         certificate.profile,
-        svg,
+        view,
         plan.list(),
         &certificate.ends,
         &[],

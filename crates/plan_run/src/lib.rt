@@ -21,7 +21,10 @@ pub use plan_pack::{
     Fault, Notation, PatternFiles, Reading, Refusal, Stop, Unmade, hex_law, migrate, migrate_file,
     pack, pack_into,
 };
-pub use request::{CheckRequest, ExplainRequest, PackRequest, PlanRequest, Request, Scan};
+pub use request::{
+    CheckRequest, ExplainRequest, HitLine, Listing, PackRequest, PlanRequest, Request, ScanRequest,
+    View,
+};
 pub use running::{answer, run};
 pub use status::Status;
 pub use workers::Workers;

@@ -1,10 +1,10 @@
 //! Writing hits to standard output.
 ghost use Rattle.std.specs.Prelude.{◌≡◌, ◌++◌, ◌∷◌, ◌||◌, [], IfOk, OnOk, Some, decimal, string_bytes};
-ghost use Rattle.plan_run.specs.Messages.{hit_line, hit_lines, hits_text, line_of, literal_line};
+ghost use Rattle.plan_run.specs.Listings.{hit_line, hit_lines, hits_text, line_of, literal_line};
 ghost use Rattle.plan_run.specs.Running.{Writes, is_write_fault};
 
 use crate::reporting::{report, report_bytes};
-use crate::request::Scan;
+use crate::request::{HitLine, Listing, ScanRequest};
 use crate::status::Status;
 use byte_io::{ByteOut, push_number};
 use lit_plan::Compiled;
@@ -16,22 +16,24 @@ use text_ends::Hit;
 /// How many hits are written at once.
 const HITS_AT_ONCE: usize = 2048;
 
-/// Writes hits of a plan, a line each, or how many they are.
+/// Writes hits of a plan as the request says: how many they are, or a line each.
 pub fn report_hits<'a, W: ByteOut>(
     alloc: Global,
     compiled: &Compiled,
-    scan: &Scan,
+    scan: &ScanRequest,
     hits: &[Hit],
     out: &mut W,
 ) -> Result<Status, Stop<'a>>
-    ensures text { Writes (hits_text scan.now.count scan.now.names compiled.now.literals hits.now) Status.Done result (W.written out.old) (W.written out.new) }
+    ensures text { Writes (hits_text scan.now.listing compiled.now.literals hits.now) Status.Done result (W.written out.old) (W.written out.new) }
     ensures flag { W.has_failed out.new ≡ (W.has_failed out.old || is_write_fault result) }
 {
-    if scan.count {
-        let text = counted(alloc, hits.len())?;
-        return report(text.as_str(), Status::Done, out);
+    match scan.listing {
+        Listing::Count => {
+            let text = counted(alloc, hits.len())?;
+            report(text.as_str(), Status::Done, out)
+        }
+        Listing::Lines(line) => report_lines(alloc, compiled, line, hits, out),
     }
-    report_lines(alloc, compiled, scan.names, hits, out)
 }
 
 /// How many hits there are, as it is written.
@@ -45,11 +47,11 @@ fn counted(alloc: Global, count: usize) -> Result<String, AllocError>
 fn report_lines<'a, W: ByteOut>(
     alloc: Global,
     compiled: &Compiled,
-    names: bool,
+    line: HitLine,
     hits: &[Hit],
     out: &mut W,
 ) -> Result<Status, Stop<'a>>
-    ensures text { Writes (hit_lines names compiled.now.literals hits.now) Status.Done result (W.written out.old) (W.written out.new) }
+    ensures text { Writes (hit_lines line compiled.now.literals hits.now) Status.Done result (W.written out.old) (W.written out.new) }
     ensures flag { W.has_failed out.new ≡ (W.has_failed out.old || is_write_fault result) }
 {
     let mut text = Vec::new(alloc);
@@ -57,7 +59,7 @@ fn report_lines<'a, W: ByteOut>(
     while !rest.is_empty() {
         let (part, after) = rest.split_at(rest.len().min(HITS_AT_ONCE));
         text.clear();
-        push_hits(compiled, names, part, &mut text)?;
+        push_hits(compiled, line, part, &mut text)?;
         report_bytes(text.as_slice(), Status::Done, out)?;
         rest = after;
     }
@@ -67,14 +69,14 @@ fn report_lines<'a, W: ByteOut>(
 /// Appends the lines of hits.
 fn push_hits(
     compiled: &Compiled,
-    names: bool,
+    line: HitLine,
     hits: &[Hit],
     text: &mut Vec<u8>,
 ) -> Result<(), AllocError>
-    ensures { OnOk result (text.new.items ≡ text.old.items ++ hit_lines names compiled.now.literals hits.now) }
+    ensures { OnOk result (text.new.items ≡ text.old.items ++ hit_lines line compiled.now.literals hits.now) }
 {
     for hit in hits {
-        push_line(compiled, names, *hit, text)?;
+        push_line(compiled, line, *hit, text)?;
     }
     Ok(())
 }
@@ -82,19 +84,18 @@ fn push_hits(
 /// Appends the line of a hit of a plan, with its literal or without. A hit of another plan may have no literal.
 fn push_line(
     compiled: &Compiled,
-    names: bool,
+    line: HitLine,
     hit: Hit,
     text: &mut Vec<u8>,
 ) -> Result<(), AllocError>
-    ensures { OnOk result (text.new.items ≡ text.old.items ++ line_of names compiled.now.literals hit) }
+    ensures { OnOk result (text.new.items ≡ text.old.items ++ line_of line compiled.now.literals hit) }
 {
-    if names {
-        match compiled.literal_of(hit) {
+    match line {
+        HitLine::End => push_hit(hit, text),
+        HitLine::Literal => match compiled.literal_of(hit) {
             Some(literal) => push_literal_line(literal, hit, text),
             None => push_hit(hit, text),
-        }
-    } else {
-        push_hit(hit, text)
+        },
     }
 }
 

@@ -23,8 +23,8 @@ pub enum Request {
     Explain(ExplainRequest),
     /// Explain a plan of a plan file.
     ExplainPlan {
-        /// Whether the plan is drawn, in place of a text.
-        svg: bool,
+        /// How the plan is shown.
+        view: View,
         /// The plan file; `-` is standard input.
         file: String,
         /// The number of the plan, from 0.
@@ -43,7 +43,34 @@ pub enum Request {
         output: String,
     },
     /// Find the patterns of a file in an input, by a plan of eight buckets.
-    Scan(Scan),
+    Scan(ScanRequest),
+}
+
+/// How a plan is shown.
+#[derive(Clone, Copy, Debug, PartialEq, Eq)]
+pub enum View {
+    /// By a text.
+    Text,
+    /// By a drawing, as an SVG file.
+    Drawing,
+}
+
+/// What is written of the hits of a scan.
+#[derive(Clone, Copy, Debug, PartialEq, Eq)]
+pub enum Listing {
+    /// How many they are.
+    Count,
+    /// A line for each.
+    Lines(HitLine),
+}
+
+/// The line of a hit.
+#[derive(Clone, Copy, Debug, PartialEq, Eq)]
+pub enum HitLine {
+    /// The literal's number, and where it ends.
+    End,
+    /// The literal's number, where it starts, and the literal.
+    Literal,
 }
 
 /// The patterns to plan.
@@ -88,23 +115,21 @@ pub struct ExplainRequest {
     pub reading: Reading,
     /// How many buckets the plan may have.
     pub profile: Profile,
-    /// Whether the plan is drawn, in place of a text.
-    pub svg: bool,
+    /// How the plan is shown.
+    pub view: View,
     /// The file of patterns; `-` is standard input.
     pub file: String,
 }
 
 /// The patterns of a search, and its input.
 #[derive(Debug, Drop)]
-pub struct Scan {
+pub struct ScanRequest {
     /// How the file of patterns is read.
     pub reading: Reading,
     /// How many workers share the input.
     pub workers: Workers,
-    /// Whether the number of hits is written in place of the hits.
-    pub count: bool,
-    /// Whether each hit is written by its start and its literal, in place of its end.
-    pub names: bool,
+    /// What is written of the hits.
+    pub listing: Listing,
     /// The file of patterns; `-` is standard input.
     pub file: String,
     /// The input of the search; `-` is standard input.

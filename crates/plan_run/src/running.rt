@@ -70,8 +70,8 @@ pub fn answer<'a, R: Threads + Sync, F: Files, W: ByteOut>(
         }
         Request::Pack(pack) => answer_pack(alloc, pack, files),
         Request::Explain(explain) => answer_explain(alloc, explain, files, out),
-        Request::ExplainPlan { svg, file, place } => {
-            answer_explain_plan(alloc, *svg, file.as_str(), *place, files, out)
+        Request::ExplainPlan { view, file, place } => {
+            answer_explain_plan(alloc, *view, file.as_str(), *place, files, out)
         }
         Request::ExplainCertificate { certificate } => {
             answer_explain_certificate(alloc, certificate.as_str(), files, out)

@@ -7,7 +7,7 @@ ghost use Rattle.plan_run.specs.Answers.{AnswersInput, AnswersScan, AreHitsRepor
 ghost use Rattle.plan_run.specs.Running.{Reports, is_write_fault};
 
 use crate::listing::report_hits;
-use crate::request::Scan;
+use crate::request::ScanRequest;
 use crate::status::Status;
 use byte_io::{ByteOut, Files};
 use lit_base::Profile;
@@ -21,13 +21,13 @@ use std::thread::Threads;
 pub fn answer_scan<'a, R: Threads + Sync, F: Files, W: ByteOut>(
     rt: &R,
     alloc: Global,
-    scan: &'a Scan,
+    scan: &'a ScanRequest,
     files: &mut F,
     out: &mut W,
 ) -> Result<Status, Stop<'a>>
     ensures answer { IfKnown (F.sources files.old) (F.sources files.new) (λ s left. AreShort s
         → Asks result (scan_asks scan.now.reading (string_bytes scan.now.file) (string_bytes scan.now.input) s) s left
-        × Reports (AnswersScan scan.now.reading scan.now.count scan.now.names (string_bytes scan.now.file) (string_bytes scan.now.input) s)
+        × Reports (AnswersScan scan.now.reading scan.now.listing (string_bytes scan.now.file) (string_bytes scan.now.input) s)
         result (W.written out.old) (W.written out.new)) }
     ensures flag { W.has_failed out.new ≡ (W.has_failed out.old || is_write_fault result) }
 {
@@ -48,13 +48,13 @@ fn scan_input<'a, R: Threads + Sync, F: Files, W: ByteOut>(
     rt: &R,
     alloc: Global,
     compiled: &Compiled,
-    scan: &'a Scan,
+    scan: &'a ScanRequest,
     files: &mut F,
     out: &mut W,
 ) -> Result<Status, Stop<'a>>
     ensures answer { IfKnown (F.sources files.old) (F.sources files.new) (λ s left. AreShort s
         → (left ≡ after (ask_of (string_bytes scan.now.input)) s)
-        × Reports (AnswersInput compiled.now.literals scan.now.count scan.now.names (string_bytes scan.now.input)
+        × Reports (AnswersInput compiled.now.literals scan.now.listing (string_bytes scan.now.input)
         (taken_by (ask_of (string_bytes scan.now.input)) s)) result (W.written out.old) (W.written out.new)) }
     ensures flag { W.has_failed out.new ≡ (W.has_failed out.old || is_write_fault result) }
 {
@@ -69,11 +69,11 @@ fn scan_text<'a, R: Threads + Sync, W: ByteOut>(
     rt: &R,
     alloc: Global,
     compiled: &Compiled,
-    scan: &'a Scan,
+    scan: &'a ScanRequest,
     text: &[u8],
     out: &mut W,
 ) -> Result<Status, Stop<'a>>
-    ensures answer { Reports (AreHitsReported compiled.now.literals scan.now.count scan.now.names text.now) result (W.written out.old) (W.written out.new) }
+    ensures answer { Reports (AreHitsReported compiled.now.literals scan.now.listing text.now) result (W.written out.old) (W.written out.new) }
     ensures flag { W.has_failed out.new ≡ (W.has_failed out.old || is_write_fault result) }
 {
     match scan_parts(rt, alloc, &NoGate, compiled, text, scan.workers.count()) {

@@ -12,8 +12,8 @@ returns-in_ok-text-in-Ok-clause-answer g c = λ patterns placed.
     let places = c.args.places.now in
     let ends = c.in-Ok.certificate.ends in
     let seen : c.certificate.inside.ends.items ≡ ends = ap (λ (p : CertificateParts). p.ends) c.certificate.view_is in
-    let text : c.as_slice.result.now ≡ explained c.args.profile c.args.svg list ends places =
-    c.as_slice.ensures.value ∙ (c.in_ok-text-in-Ok.ensures ∙ ap (λ es. explained c.args.profile c.args.svg list es places) seen) in
-    reports-text (IsExplainAnswer c.args.profile list c.args.svg patterns) c.as_slice.result.now Done c.report_bytes.result _ _
+    let text : c.as_slice.result.now ≡ explained c.args.profile c.args.view list ends places =
+    c.as_slice.ensures.value ∙ (c.in_ok-text-in-Ok.ensures ∙ ap (λ es. explained c.args.profile c.args.view list es places) seen) in
+    reports-text (IsExplainAnswer c.args.profile list c.args.view patterns) c.as_slice.result.now Done c.report_bytes.result _ _
     (Explained (record { ends = ends; places = places; first = c.in-Ok.ensures.first; placed = placed; is = ap (λ t. printed t Done) text }))
     c.report_bytes.ensures.text

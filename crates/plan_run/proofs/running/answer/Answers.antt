@@ -26,7 +26,7 @@ returns-in-Explain-clause-answer g c =
 
 pub returns-in-ExplainPlan-clause-answer : goal.returns-in-ExplainPlan-clause-answer
 returns-in-ExplainPlan-clause-answer g c =
-    rw c.in-ExplainPlan.is (explain-plan-answers g.F.Output.ByteOut.written g.F.Output.ByteOut.has_failed c.in-ExplainPlan.svg c.in-ExplainPlan.file c.in-ExplainPlan.place _ (g.F.Opener.sources c.args.files.now) (g.F.Opener.sources c.answer_explain_plan.new.files) c.answer_explain_plan.result
+    rw c.in-ExplainPlan.is (explain-plan-answers g.F.Output.ByteOut.written g.F.Output.ByteOut.has_failed c.in-ExplainPlan.view c.in-ExplainPlan.file c.in-ExplainPlan.place _ (g.F.Opener.sources c.args.files.now) (g.F.Opener.sources c.answer_explain_plan.new.files) c.answer_explain_plan.result
     (g.W.ByteOut.written c.args.out.now) (g.W.ByteOut.written c.answer_explain_plan.new.out) c.as_str-in-ExplainPlan.ensures.value c.answer_explain_plan.ensures.answer)
 
 pub returns-in-ExplainCertificate-clause-answer : goal.returns-in-ExplainCertificate-clause-answer

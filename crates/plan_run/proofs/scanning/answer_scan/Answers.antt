@@ -12,7 +12,7 @@ use Rattle.plan_run.proofs.scanning.answer_scan.Goals as goal
 
 pub returns-in-Ok-clause-answer : goal.returns-in-Ok-clause-answer
 returns-in-Ok-clause-answer g c =
-    rw c.as_str.ensures.value at (scan-had c.args.scan.now.reading c.args.scan.now.count c.args.scan.now.names c.as_str.result.now (string_bytes c.args.scan.now.input)
+    rw c.as_str.ensures.value at (scan-had c.args.scan.now.reading c.args.scan.now.listing c.as_str.result.now (string_bytes c.args.scan.now.input)
     (g.F.Opener.sources c.args.files.now) (g.F.Opener.sources c.plan_of.new.files) (g.F.Opener.sources c.scan_input.new.files) c.in-Ok.compiled c.scan_input.result
     (g.W.ByteOut.written c.args.out.now) (g.W.ByteOut.written c.scan_input.new.out) c.in-Ok.ensures.plan c.scan_input.ensures.answer)
 
@@ -26,5 +26,5 @@ returns-in-Err-clause-answer g c =
     let left = g.F.Opener.sources c.plan_of.new.files in
     let reading = c.args.scan.now.reading in
     let stop = c.in-Err.stop in
-    scan-stopped reading c.args.scan.now.count c.args.scan.now.names (string_bytes c.args.scan.now.file) (string_bytes c.args.scan.now.input) known left stop (g.W.ByteOut.written c.args.out.now)
+    scan-stopped reading c.args.scan.now.listing (string_bytes c.args.scan.now.file) (string_bytes c.args.scan.now.input) known left stop (g.W.ByteOut.written c.args.out.now)
     (subst (λ (name : List ℕ). IfKnown known left (λ s l. AreShort s → (l ≡ after (ask_of name) s) × TakesPlan reading Eight name (taken_by (ask_of name) s) (stopped stop))) c.as_str.ensures.value c.in-Err.ensures.plan)
