@@ -16,12 +16,17 @@ enum { ROOM = 8192, PIECE = 65536 };
 static fiolargu_hit hits[ROOM];
 static uint8_t piece[PIECE];
 
+static void fail(const char *what)
+{
+    fprintf(stderr, "find: %s\n", what);
+    exit(2);
+}
+
 /* Ends at an error. */
 static void expect_ok(int32_t status)
 {
     if (status != FIOLARGU_OK) {
-        fprintf(stderr, "find: %s\n", fiolargu_message(status));
-        exit(2);
+        fail(fiolargu_message(status));
     }
 }
 
@@ -56,5 +61,11 @@ int main(int argc, char **argv)
     }
     fiolargu_stream_close(&stream);
     fiolargu_plan_free(&plan);
-    return ferror(stdin) ? 2 : 0;
+    if (ferror(stdin)) {
+        fail("standard input cannot be read");
+    }
+    if (fflush(stdout) != 0 || ferror(stdout)) {
+        fail("standard output cannot be written");
+    }
+    return 0;
 }

@@ -90,6 +90,13 @@ def example():
         yield "its lines", output.splitlines() == ["%d %d %d" % hit for hit in want], True
         yield "no words", ran(program), (2, "", "find: no literals\n")
         yield "a long word", ran(program, "a" * 4096), (2, "", "find: a pattern of more than 4,095 bytes\n")
+        with open("/dev/full", "wb") as full:
+            done = subprocess.run([program, "cat"], input=text, stdout=full, stderr=subprocess.PIPE, timeout=60)
+        yield "a full output", (done.returncode, done.stderr), (2, b"find: standard output cannot be written\n")
+        unreadable = os.open(folder, os.O_RDONLY)
+        done = subprocess.run([program, "cat"], stdin=unreadable, capture_output=True, timeout=60)
+        os.close(unreadable)
+        yield "an input that is a folder", (done.returncode, done.stderr), (2, b"find: standard input cannot be read\n")
         header = os.path.join(folder, "only.cc")
         with open(header, "w", encoding="ascii") as file:
             file.write('#include "fiolargu.h"\nint main() { fiolargu_plan plan = {}; fiolargu_plan_free(&plan); }\n')

@@ -26,6 +26,8 @@ def frames():
     for buckets in 0, 7, 9, 32:
         yield f"a Publish by {buckets}", fault_of(scand_client.publish_frame, [b"a"], buckets=buckets)[0], "ValueError"
     yield "an Open", scand_client.open_frame(7, 1 << 63), sessions.open_stream(7, 1 << 63)
+    for stream, number in (-1, 0), (1 << 32, 0), (0, -1), (0, 1 << 64):
+        yield f"an Open of {stream} by {number}", fault_of(scand_client.open_frame, stream, number)[0], "ValueError"
     yield "a full Feed", scand_client.feed_frame(0xFFFFFFFF, b"a" * 65536), sessions.feed(0xFFFFFFFF, b"a" * 65536)
     yield "a Feed too large", fault_of(scand_client.feed_frame, 0, bytes(65537))[0], "ValueError"
     yield "the greatest Publish", len(scand_client.publish_frame([b"a" * 65531])), 65545
@@ -347,10 +349,128 @@ def resuming():
             hits = stream.scan([b"ushers"] * 9, 3)
             first = [next(hits), next(hits)]
             hits.close()
-            sent = stream.place + sum(map(len, stream._unfed))
+            sent = stream.taken
             rest = stream.feed(b"ushers")
             want = [hit for hit in plain_hits(PRONOUNS, False, b"ushers" * 10) if sent < hit.end <= sent + 6]
             yield f"a scan that is left, lost at {limits}", (first, rest, stream.place), (FOUND[:2], want, sent + 6)
+
+
+def sends(frames):
+    """A client of a server that sends these frames, whatever the requests, and ends."""
+    near, far = socket.socketpair()
+    with far:
+        far.sendall(b"".join(frames))
+    return over(near)
+
+
+def replies(*pieces):
+    """The frames that reply to a list published, a stream opened and these pieces fed."""
+    requests = sessions.publish(PRONOUNS), sessions.open_stream(0, 0), *(sessions.feed(0, piece) for piece in pieces)
+    return sessions.conversation(b"".join(requests))[0]
+
+
+def dials(*servers):
+    """Dials servers in turn. Each is the frames that it sends, or the fault of the dial."""
+    turns = iter(servers)
+
+    def dial():
+        server = next(turns, scand_client.NotStarted("no further server"))
+        if isinstance(server, Exception):
+            raise server
+        return sends(server)
+
+    return dial
+
+
+def all_of(hits):
+    """The hits, and the name of the fault that follows them."""
+    found = []
+    try:
+        for hit in hits:
+            found.append(hit)
+        return found, "nothing"
+    except Exception as fault:
+        return found, type(fault).__name__
+
+
+SHE = [Hit(0, 10), Hit(2, 10)]
+
+
+def faults():
+    """After a fault that a scan raises, the next call gives the hits that were not given."""
+    lost, both, wrong = replies(), replies(b"ushers", b" she"), sessions.frame(0x18, 0)
+    missing, refused = scand_client.NotStarted("none"), sessions.refused(0, sessions.NO_SUCH_PLAN)
+    for want, *servers in (
+        ("NotStarted", lost, missing),
+        ("BadReply", [*lost, wrong]),
+        ("BadReply", lost, [*lost, wrong]),
+        ("BadReply", lost, [wrong]),
+        ("NoSuchPlan", lost, [*lost[:1], refused]),
+        ("KeyError", lost, KeyError("of the dial")),
+    ):
+        with Resumed(dials(*servers, both), PRONOUNS, pause=0) as stream:
+            got = fault_of(stream.feed, b"ushers")[0], stream.place, stream.taken
+            yield f"{want} of server {len(servers)}", got, (want, 0, 6)
+            yield "the hits after it", (stream.feed(b" she"), stream.place, stream.taken), (FOUND + SHE, 10, 10)
+    with Resumed(dials(missing, [wrong], both), PRONOUNS) as stream:
+        got = fault_of(stream.feed, b"a")[0], fault_of(stream.feed, b"b")[0], stream.taken
+        yield "faults before a piece is taken", got, ("NotStarted", "BadReply", 0)
+        yield "the hits after them", stream.feed(b"ushers"), FOUND
+    for place in range(len(FOUND) + 1):
+        part = [*lost, *sessions.hits_replies(0, FOUND[:place]), wrong]
+        with Resumed(dials(part, both), PRONOUNS) as stream:
+            yield f"a fault after {place} hits", all_of(stream.scan([b"ushers"])), (FOUND[:place], "BadReply")
+            yield "the other hits", all_of(stream.scan([b" she"])), (FOUND[place:] + SHE, "nothing")
+    after = replies(b"ushers"), [*replies(b"ers"), wrong], replies(b"ers", b" she", b"")
+    with Resumed(dials(*after), PRONOUNS, pause=0) as stream:
+        got = stream.feed(b"ushers"), fault_of(stream.feed, b" she")[0], stream.place, stream.taken, stream.losses
+        yield "a fault on a connection that resumed", got, (FOUND, "BadReply", 6, 10, 1)
+        yield "the hits after the fault", (stream.feed(b""), stream.place, stream.losses), (SHE, 10, 2)
+
+
+def failing(fault, *pieces):
+    """These pieces, and then a fault."""
+    yield from pieces
+    raise fault
+
+
+def pieces_that_fail():
+    """A fault of the pieces follows the hits of the pieces before it, and the stream goes on."""
+    every, ends_between = replies(b"ush", b"ers", b" she"), replies(b"ush")
+    for fault in OSError("read"), scand_client.ConnectionLost("elsewhere"), scand_client.NoSuchPlan(14):
+        name = type(fault).__name__
+        with sends(every) as client:
+            stream = client.open(client.publish(PRONOUNS))
+            yield f"{name} of the pieces", all_of(stream.scan(failing(fault, b"ush", b"ers"))), (FOUND, name)
+            yield f"the stream after {name}", (stream.feed(b" she"), stream.place), (SHE, 10)
+        for servers in [every], [ends_between, every]:
+            with Resumed(dials(*servers), PRONOUNS, pause=0) as stream:
+                got = all_of(stream.scan(failing(fault, b"ush", b"ers"))), stream.losses
+                yield f"{name} of the pieces, over {len(servers)}", got, ((FOUND, name), len(servers) - 1)
+                yield f"the stream after {name}, over {len(servers)}", (stream.feed(b" she"), stream.place), (SHE, 10)
+
+
+def inside_scans():
+    """Calls inside a scan that has not ended, and streams whose number was given again."""
+    with sends(replies(b"ushers")) as client:
+        hits = client.open(client.publish(PRONOUNS)).scan([b"ushers", b" she"], 1)
+        yield "the first hit", next(hits), FOUND[0]
+        client.close()
+        yield "a client closed inside a scan", all_of(hits), (FOUND[1:], "ConnectionLost")
+    with Resumed(dials(replies(b"ushers"), replies(b"ers", b" she")), PRONOUNS, pause=0) as stream:
+        hits = stream.scan([b"ushers", b" she"], 1)
+        yield "its first hit", next(hits), FOUND[0]
+        yield "a stream begun again inside a scan", fault_of(stream.restart)[0], "RuntimeError"
+        yield "a scan inside it", fault_of(stream.feed, b"a")[0], "RuntimeError"
+        yield "the other hits", (all_of(hits), stream.place, stream.losses), ((FOUND[1:] + SHE, "nothing"), 10, 1)
+    opened, closed = sessions.open_stream(0, 0), sessions.close(0)
+    requests = sessions.publish(PRONOUNS), opened, closed, opened, sessions.feed(0, b"ushers")
+    with sends(sessions.conversation(b"".join(requests))[0]) as client:
+        plan = client.publish(PRONOUNS)
+        with client.open(plan) as first:
+            first.close()
+            second = client.open(plan)
+        yield "a stream that took the number of a closed one", (second.number, second.feed(b"ushers")), (0, FOUND)
 
 
 def by_number():
@@ -410,4 +530,7 @@ def files():
         yield "a program that is no server", run("--stdio", "true", "-f", "words", "third"), (2, b"", ended)
 
 
-TESTS = (frames, talks, refusals, random_talks, canned, names, lost_everywhere, lost_often, resuming, files)
+TESTS = (
+    frames, talks, refusals, random_talks, canned, names, lost_everywhere, lost_often, resuming, faults, pieces_that_fail,
+    inside_scans, files,
+)

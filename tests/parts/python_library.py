@@ -1,6 +1,8 @@
 """clients/python over the C library: plans, scans and streams compared with a plain search, threads, buffers, errors."""
 
 import array
+import contextlib
+import gc
 import mmap
 import os
 import pickle
@@ -12,15 +14,19 @@ import tempfile
 import threading
 import time
 import tracemalloc
+from unittest import mock
 
 from cases import session_cases
 from support import clibrary
 from support.programs import LITPLAN, TOP, version
 from support.pyclient import PRONOUNS, PYTHON, fault_of, plain_hits
 
-from fiolargu import Hit, Hits, Plan, check, library_version
+from fiolargu import Hit, Hits, Plan, check, library, library_version
+from fiolargu import plan as plans
 
 MIB = 1 << 20
+# Calls of the library that make a handle, and the place of the handle in their words.
+MAKING = {"plan_new": 0, "plan_share": 1, "stream_open": 1, "stream_copy": 1}
 
 
 def wanted(literals, is_folded, text, base=0):
@@ -181,6 +187,8 @@ def errors():
     yield "a place after the text", fault_of(plan.next_end, b"abc", 4), ("OutOfRange", 0)
     yield "a negative place", fault_of(plan.next_end, b"abc", -1), ("OutOfRange", 0)
     yield "a base too large", fault_of(plan.stream, 1 << 64), ("OutOfRange", 0)
+    want = "OutOfRange (23): a position or a number of a literal is out of range"
+    yield "a base below 0", str(error_of(plan.stream, -1)), want
     stream = plan.stream()
     stream.close()
     plan.close()
@@ -200,6 +208,43 @@ def error_of(call, *words):
         return call(*words)
     except Exception as fault:
         return fault
+
+
+def left_by(call, **starved):
+    """The fault of a call while Python has no memory for these parts, and how many handles it made and did not free."""
+    calls, made = library.library(), []
+
+    def noting(name, place):
+        make = getattr(calls, name)
+
+        def noted(*words):
+            made.append(words[place]._obj)
+            return make(*words)
+
+        return mock.patch.object(calls, name, noted)
+
+    with contextlib.ExitStack() as patches:
+        for name, place in MAKING.items():
+            patches.enter_context(noting(name, place))
+        for name, owner in starved.items():
+            patches.enter_context(mock.patch.object(owner, name, side_effect=MemoryError))
+        fault = fault_of(call)[0]
+    gc.collect()
+    return fault, sum(handle.at is not None for handle in made)
+
+
+def starved():
+    """Where Python has no memory, each handle is freed. A feed whose hits are lost closes its stream."""
+    plan = Plan(PRONOUNS)
+    yield "a plan", left_by(lambda: Plan(PRONOUNS), plan_info=library.library()), ("MemoryError", 0)
+    yield "a search", left_by(lambda: plan.count(b"ushers"), _Room=plans), ("MemoryError", 0)
+    yield "the search again", plan.count(b"ushers"), 3
+    yield "a stream", left_by(plan.stream, _Room=plans), ("MemoryError", 0)
+    stream = plan.stream()
+    yield "its copy", left_by(stream.copy, _Room=plans), ("MemoryError", 0)
+    yield "the stream", (stream.feed(b"ush"), stream.place), ([], 3)
+    yield "its hits", left_by(lambda: stream.feed(b"ers"), found=plans._Room), ("MemoryError", 0)
+    yield "its next feed", fault_of(stream.feed, b"ers"), ("NullHandle", 0)
 
 
 def plan_files():
@@ -299,6 +344,19 @@ def missing():
     yield "the old name", old.stdout, "fiolargu.client <class 'fiolargu.errors.FiolarguError'>\n"
 
 
+def loading():
+    """Which versions are taken, and a file near the package that is no library."""
+    for numbers, want in (1999, False), (2000, True), (3001, True), (999999, True), (1000000, False), (1002000, False):
+        file = mock.MagicMock()
+        file._name, file.fiolargu_version.return_value = "lib.so", numbers
+        made = error_of(library.Library, file)
+        yield f"version {numbers}", isinstance(made, library.Library), want
+    yield "the message", str(made), "lib.so has version 1.2.0, and 0.2 is needed"
+    with mock.patch.object(library, "NAME", "none.so"), mock.patch.object(library, "_near", lambda: iter([__file__])):
+        fault = error_of(library._loaded, None)
+        yield "a file that is no library", (type(fault).__name__, __file__ in str(fault)), ("LibraryMissing", True)
+
+
 def with_library(test):
     """A test that yields nothing where there is no library."""
     def tested():
@@ -313,4 +371,5 @@ def there():
     return ()
 
 
-TESTS = (there, missing, *map(with_library, (worked, bulk, dense, random_scans, buffers, errors, plan_files, threads, documented)))
+NEEDING = worked, bulk, dense, random_scans, buffers, errors, starved, plan_files, threads, documented
+TESTS = (there, missing, loading, *map(with_library, NEEDING))

@@ -135,6 +135,8 @@ def loaded():
             want = 2, b"", b"scan_files: plan 1: NoSuchPlan (14), detail 0, stream 0\n"
             yield "a plan that is not there", scanned(folder, *port, "1", "text"), want
             yield "a plan that is not there, with a list", scanned(folder, *port, "1", "-f", "words", "text"), want
+            want = 2, b"", b"scan_files: plan -1: the number of a plan is from 0 to 2^64 - 1\n"
+            yield "a plan that cannot be", scanned(folder, "--stdio", SCAND, "--plan", "-1", "text"), want
             for words, part in (port[:2], b"is needed, or --plan NUMBER"), ((*port, "0", "--names"), b"is needed for --names"):
                 got = scanned(folder, *words, "text")
                 yield f"no list: {part}", (*got[:2], part in got[2]), (2, b"", True)

@@ -12,8 +12,8 @@ from typing import BinaryIO, Callable, Dict, Generator, Iterable, List, Optional
 
 from .errors import BadFrame, BadReply, ConnectionLost, FiolarguError, NotStarted, Refusal, Refused, TimedOut, refusal
 from .frames import (
-    HEAD, HIT, NUMBER, SIXTEEN_BUCKETS, IGNORES_CASE, TAKEN, PAYLOAD, Hit, Plan, PlanShown, Reply, Request, cut, feed_frame, frame,
-    is_whole, open_frame, ordered, publish_frame, texts,
+    HEAD, HIT, NUMBER, SIXTEEN_BUCKETS, IGNORES_CASE, TAKEN, PAYLOAD, Hit, Pieces, Plan, PlanShown, Reply, Request, feed_frame,
+    frame, is_whole, open_frame, ordered, publish_frame, texts,
 )
 
 class Link:
@@ -116,7 +116,7 @@ class Client:
 
     def open(self, plan: Union[Plan, int], number: Optional[int] = None) -> Stream:
         """Opens a stream by a plan, or by the number of a plan that another client published or that the server began
-        with. The stream gets `number`, by default the first free number."""
+        with. The stream gets `number`, by default the first free number. ValueError where a number does not fit a frame."""
         if number is None:
             number = next(free for free in range(len(self._streams) + 1) if free not in self._streams)
         self._ask(open_frame(number, plan.number if isinstance(plan, Plan) else plan), number, Reply.OPENED)
@@ -130,11 +130,15 @@ class Client:
 
     def _send(self, request: bytes) -> None:
         """Appends a request to the bytes to send."""
-        if not self._is_open:
-            raise ConnectionLost(f"the connection to {self.name} is closed")
+        self._expect_open()
         if self._is_scanning:
             raise RuntimeError("a scan of this client has not ended: take its hits to the end, or close it")
         self._sent += request
+
+    def _expect_open(self) -> None:
+        """ConnectionLost where the connection is closed."""
+        if not self._is_open:
+            raise ConnectionLost(f"the connection to {self.name} is closed")
 
     def _begin(self) -> None:
         """Begins a scan."""
@@ -176,6 +180,7 @@ class Client:
 
     def _turn(self) -> None:
         """Moves some bytes, in either way."""
+        self._expect_open()
         try:
             can_read, can_write = self._link.wait(bool(self._sent) and self._can_write, self.timeout)
             if not can_read and not can_write:
@@ -242,7 +247,7 @@ class Stream:
         return self
 
     def __exit__(self, *_: object) -> None:
-        if self.client._is_open and not self.client._is_scanning and self.number in self.client._streams:
+        if self.client._is_open and not self.client._is_scanning and self.client._streams.get(self.number) is self:
             with contextlib.suppress(ConnectionLost, TimedOut):
                 self.close()
 
@@ -254,8 +259,9 @@ class Stream:
         """An iterator over the hits, which feeds the pieces as it is read. Up to `ahead` Feeds are on their way at once: it
         takes that many pieces before it gives the hits of the first. With 1 it takes a piece after the reply to the piece
         before. The client serves no other call until the iterator is at its end or closed. Closing it drops the hits of
-        what was fed."""
-        source, awaited, is_over = cut(pieces), 0, False
+        what was fed. An exception of `pieces` is raised after the hits of the pieces before it."""
+        given = Pieces(pieces)
+        source, awaited, is_over = iter(given), 0, False
         self.client._begin()
         try:
             while awaited or not is_over:
@@ -274,6 +280,8 @@ class Stream:
             raise
         finally:
             self._drain(awaited)
+        if given.fault is not None:
+            raise given.fault
 
     def _answer(self) -> Tuple[bool, Iterable[Hit]]:
         """Whether the next reply is the Fed of a Feed, and otherwise its hits."""

@@ -148,7 +148,7 @@ class SmallBuffer(Refused):
 
 
 class OutOfRange(Refused, IndexError):
-    """A position after the end of the text, or a literal that the plan does not have."""
+    """A position that is not in the text or does not fit 64 bits, or a literal that the plan does not have."""
 
 
 # What the library's refusals say. The messages of the server's refusals name the stream instead.
@@ -162,7 +162,7 @@ _MEANINGS: Dict[int, str] = {
     Refusal.NO_SUCH_PLAN: "the plan file has no plan of this number",
     Refusal.STREAM_TOO_LONG: "the position in the stream would pass 2^64 - 1",
     Refusal.NULL_HANDLE: "the plan or stream is closed",
-    Refusal.OUT_OF_RANGE: "a position after the end of the text",
+    Refusal.OUT_OF_RANGE: "a position or a number of a literal is out of range",
 }
 
 _CLASSES: Dict[int, Type[Refused]] = {

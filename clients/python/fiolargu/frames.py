@@ -4,7 +4,7 @@ from __future__ import annotations
 
 import enum
 import struct
-from typing import BinaryIO, Iterable, Iterator, List, NamedTuple, Sequence, Tuple
+from typing import BinaryIO, Iterable, Iterator, List, NamedTuple, Optional, Sequence, Tuple
 
 # What a payload may have at most, the most hits of one Hits, and how much is taken from a connection at once.
 PAYLOAD, HITS_IN_FRAME, TAKEN = 65536, 4096, 1 << 18
@@ -112,7 +112,27 @@ def cut(pieces: Iterable[bytes]) -> Iterator[bytes]:
             yield bytes(piece[start : start + PAYLOAD])
 
 
+class Pieces:
+    """The pieces of an iterable, each cut into pieces that fit a frame. They end where the iterable raises, and `fault` is
+    its exception. So the hits of the pieces before it can be given first."""
+
+    def __init__(self, given: Iterable[bytes]) -> None:
+        self.given = given
+        self.fault: Optional[Exception] = None
+
+    def __iter__(self) -> Iterator[bytes]:
+        try:
+            yield from cut(self.given)
+        except Exception as fault:
+            self.fault = fault
+
+
 def open_frame(stream: int, number: int) -> bytes:
+    """The frame of an Open. ValueError where a number does not fit it."""
+    if not 0 <= stream < 1 << 32:
+        raise ValueError(f"stream {stream}: the number of a stream is from 0 to 2^32 - 1")
+    if not 0 <= number < 1 << 64:
+        raise ValueError(f"plan {number}: the number of a plan is from 0 to 2^64 - 1")
     return frame(Request.OPEN, stream, NUMBER.pack(number))
 
 

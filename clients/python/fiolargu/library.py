@@ -21,8 +21,8 @@ if TYPE_CHECKING:
     Bytes = Union[bytes, bytearray, memoryview, mmap.mmap, "array.array[Any]"]
 
 NAME = "libfiolargu.so.0"
-# The first two numbers of the versions that have the calls below.
-_VERSION = 2
+# The first version that has the calls below. Later versions with the same first number have them too.
+_VERSION = (0, 2)
 NO_LITERAL = 0xFFFFFFFF
 
 
@@ -121,14 +121,14 @@ def _near() -> Iterator[str]:
 
 def _loaded(given: Optional[str]) -> ctypes.CDLL:
     """The library's file, opened: the one that was given, or the one that is found."""
-    try:
-        return ctypes.CDLL(given or NAME)
-    except OSError as fault:
-        if not given:
-            for path in filter(os.path.exists, _near()):
-                return ctypes.CDLL(path)
-        hint = "" if given else " (FIOLARGU_LIBRARY may name its file)"
-        raise LibraryMissing(f"the C library cannot be loaded: {fault}{hint}") from fault
+    cause: Optional[OSError] = None
+    for path in [given] if given else [NAME, *filter(os.path.exists, _near())]:
+        try:
+            return ctypes.CDLL(path)
+        except OSError as fault:
+            cause = fault
+    hint = "" if given else " (FIOLARGU_LIBRARY may name its file)"
+    raise LibraryMissing(f"the C library cannot be loaded: {cause}{hint}") from cause
 
 
 _PLAN, _STREAM = ctypes.POINTER(Handle), ctypes.POINTER(Handle)
@@ -172,8 +172,8 @@ class Library:
                 setattr(self, name, call)
         except AttributeError as fault:
             raise LibraryMissing(f"{file._name} is another library, or of another version: {fault}") from fault
-        if self.version[:2] < (0, _VERSION) or self.version[0] > 0:
-            raise LibraryMissing(f"{file._name} has version {'.'.join(map(str, self.version))}, and 0.{_VERSION} is needed")
+        if self.version[0] != _VERSION[0] or self.version[:2] < _VERSION:
+            raise LibraryMissing(f"{file._name} has version {_dotted(self.version)}, and {_dotted(_VERSION)} is needed")
 
     if TYPE_CHECKING:
         def __getattr__(self, name: str) -> Callable[..., int]: ...
@@ -182,6 +182,11 @@ class Library:
 def _numbers(version: int) -> Tuple[int, int, int]:
     """The three numbers of a version."""
     return version // 1000000, version // 1000 % 1000, version % 1000
+
+
+def _dotted(numbers: Tuple[int, ...]) -> str:
+    """Numbers of a version as users write them."""
+    return ".".join(map(str, numbers))
 
 
 @functools.lru_cache(maxsize=None)

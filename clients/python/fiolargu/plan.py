@@ -115,9 +115,11 @@ class Plan:
         """Makes the handle by a call, and takes what the plan has."""
         self._library, self._lock = library(), threading.Lock()
         # One call at a time uses a handle. `_shared` serves shares alone, under the lock; each search takes a handle of its
-        # own, which keeps the tuning of the search, and gives it back to `_idle`.
+        # own, which keeps the tuning of the search, and gives it back to `_idle`. The interpreter's lock guards `_idle`.
         self._shared, self._is_open = Handle(), True
         self._idle: List[_Search] = []
+        # `__del__` frees the handle from here on.
+        self._literals: Optional[Tuple[bytes, ...]] = None
         fault_at, info = ctypes.c_size_t(), Info()
         answered(make(ctypes.byref(self._shared), ctypes.byref(fault_at)), fault_at.value)
         answered(self._library.plan_info(ctypes.byref(self._shared), ctypes.byref(info)))
@@ -127,7 +129,6 @@ class Plan:
         self.cost: int = info.cost
         """What the plan costs: no grouping into at most that many buckets costs less."""
         self._size: int = info.literals
-        self._literals: Optional[Tuple[bytes, ...]] = None
 
     def __reduce__(self) -> Tuple[Callable[[bytes], Plan], Tuple[bytes]]:
         return type(self).from_bytes, (self.to_bytes(),)
@@ -160,10 +161,11 @@ class Plan:
         try:
             return self._idle.pop()
         except IndexError:
-            handle = Handle()
+            # The room comes first: nothing would free the handle if there were no memory for the room.
+            search = _Search(Handle(), self._size + _ROOM)
             with self._lock:
-                answered(self._library.plan_share(ctypes.byref(self._shared), ctypes.byref(handle)))
-            return _Search(handle, self._size + _ROOM)
+                answered(self._library.plan_share(ctypes.byref(self._shared), search.handles))
+            return search
 
     def _give(self, search: _Search) -> None:
         """Keeps a handle for the next search, or frees it where the plan was closed meanwhile."""
@@ -273,10 +275,14 @@ class Stream:
     that closes it. Threads may share it, and take turns."""
 
     def __init__(self, plan: Plan, base: int = 0) -> None:
-        self._library, self._lock, self._handle = plan._library, threading.Lock(), Handle()
+        self._begin(plan, len(plan) + 1 + _FEED_ROOM)
         with plan._search() as search:
             answered(self._library.stream_open(search.handles, ctypes.byref(self._handle), _position(base)))
-        self._room, self.plan = _Room(len(plan) + 1 + _FEED_ROOM), plan
+
+    def _begin(self, plan: Plan, room: int) -> None:
+        """Takes all that a stream needs besides its handle, so that `__del__` frees the handle from then on."""
+        self._library, self._lock, self._handle = plan._library, threading.Lock(), Handle()
+        self._room, self.plan = _Room(room), plan
 
     def __enter__(self) -> Stream:
         return self
@@ -295,22 +301,23 @@ class Stream:
 
     def feed(self, piece: Bytes) -> Hits:
         """Takes the next bytes, and gives the hits that end in them. Raises StreamTooLong where the position would pass
-        2^64 - 1, and then the stream is as before; OutOfMemory; NullHandle. After OutOfMemory the stream is closed, since
-        it may have taken a part of the piece."""
-        records, taken, room = bytearray(), 0, self._room
+        2^64 - 1, and then the stream is as before; OutOfMemory; NullHandle. After OutOfMemory, or a MemoryError of Python,
+        the stream is closed, since it may have taken a part of the piece."""
+        records, taken, room, handle = bytearray(), 0, self._room, ctypes.byref(self._handle)
         with Borrowed(piece) as text, self._lock:
-            while True:
-                at = text.address() + taken if taken else text.at
-                status = self._library.stream_feed(
-                    ctypes.byref(self._handle), at, text.size - taken, room.places, room.at, room.size, room.counts
-                )
-                if status == Refusal.OUT_OF_MEMORY:
-                    self._library.stream_close(ctypes.byref(self._handle))
-                answered(status)
-                records += room.found()
-                taken += room.place.value
-                if taken == text.size:
-                    return Hits(records)
+            try:
+                while True:
+                    at = text.address() + taken if taken else text.at
+                    answered(self._library.stream_feed(
+                        handle, at, text.size - taken, room.places, room.at, room.size, room.counts
+                    ))
+                    records += room.found()
+                    taken += room.place.value
+                    if taken == text.size:
+                        return Hits(records)
+            except MemoryError:
+                self._library.stream_close(handle)
+                raise
 
     def scan(self, pieces: Iterable[Bytes]) -> Iterator[Hit]:
         """Feeds pieces as its hits are asked for, and gives these as they come."""
@@ -328,10 +335,9 @@ class Stream:
     def copy(self) -> Stream:
         """A stream at the same position, after the same bytes. Each goes on alone."""
         other = Stream.__new__(Stream)
-        other._library, other._lock, other._handle = self._library, threading.Lock(), Handle()
+        other._begin(self.plan, self._room.size)
         with self._lock:
             answered(self._library.stream_copy(ctypes.byref(self._handle), ctypes.byref(other._handle)))
-        other._room, other.plan = _Room(self._room.size), self.plan
         return other
 
     def restart(self, base: int = 0) -> None:

@@ -10,7 +10,7 @@ from typing import Callable, Deque, Generator, Iterable, Iterator, List, Optiona
 
 from .client import Client, Stream
 from .errors import BadReply, ConnectionLost, FiolarguError, NotStarted, TimedOut
-from .frames import Hit, Plan, cut, ordered, texts
+from .frames import Hit, Pieces, Plan, ordered, texts
 
 class Resumed:
     """A stream by a list of its own, which resumes when a connection is lost. `dial` gives a new client, which publishes
@@ -27,6 +27,9 @@ class Resumed:
 
     After `tries` connections in a row that bring it no further, it raises the last fault, and again at each later call.
     Between them it waits for `pause` seconds, and twice as long each time, up to two seconds.
+
+    After any other fault the stream goes on. The next call first feeds the bytes that were taken and not reported as fed,
+    and gives the hits that were not given. `taken` is the position of the byte to pass next.
     """
 
     def __init__(
@@ -57,6 +60,11 @@ class Resumed:
     def __exit__(self, *_: object) -> None:
         self.close()
 
+    @property
+    def taken(self) -> int:
+        """How many bytes were taken from pieces, in all: reported as fed, or kept to be fed by the next call."""
+        return self.place + sum(map(len, self._unfed))
+
     def close(self) -> None:
         """Ends the connection."""
         if self._client is not None:
@@ -71,8 +79,8 @@ class Resumed:
         """As `Stream.scan`, over as many connections as it takes."""
         if self._fault is not None:
             raise self._fault
-        source = self._noted(cut(pieces))
-        is_over = False
+        given = Pieces(pieces)
+        source, is_over = self._noted(iter(given)), False
         try:
             while not is_over:
                 try:
@@ -82,21 +90,27 @@ class Resumed:
                     raise
                 except (ConnectionLost, TimedOut) as fault:
                     self._lose(fault)
+        except GeneratorExit:
+            # Closing drops the hits of the pieces that were taken. A fault drops none: the next call gives them.
+            self._told = max(self._told, (self.taken, len(self.literals)))
+            raise
         finally:
             self._note_place()
-            self._told = max(self._told, (self.place + sum(map(len, self._unfed)), len(self.literals)))
+        if given.fault is not None:
+            raise given.fault
 
     def restart(self) -> None:
         """Begins a new stream by the same list, over the same connection while that holds. Its place is 0."""
-        self.place, self._lead, self._told = 0, b"", (0, 0)
-        self._failed = self._place_failed = self._base = 0
-        self._unfed.clear()
+        # First the calls that may raise: a scan that has not ended makes them raise, and goes on.
         if self._client is not None and self._stream is not None and self._plan is not None:
             try:
                 self._stream.close()
                 self._stream = self._client.open(self._plan)
             except (ConnectionLost, TimedOut):
                 self.close()
+        self.place, self._lead, self._told = 0, b"", (0, 0)
+        self._failed = self._place_failed = self._base = 0
+        self._unfed.clear()
 
     def _hits(self, stream: Stream, source: Iterator[bytes], ahead: int) -> Iterator[Hit]:
         """The hits of one connection that were not given yet."""

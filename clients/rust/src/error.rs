@@ -27,7 +27,7 @@ pub enum Error {
     NoSuchPlan,
     /// The position in the stream would pass 2^64 - 1.
     StreamTooLong,
-    /// A position lies after the end of the text.
+    /// A position lies after the end of the text, or the plan has no literal of this number.
     OutOfRange,
     /// A status that this crate does not know, or that none of its calls should cause.
     Unexpected {
@@ -82,7 +82,7 @@ impl fmt::Display for Error {
             Error::BadPlanFile { place } => write!(f, "no plan file, or not certified, at byte {place}"),
             Error::NoSuchPlan => write!(f, "the plan file has no plan of this number"),
             Error::StreamTooLong => write!(f, "the position in the stream would pass 2^64 - 1"),
-            Error::OutOfRange => write!(f, "a position after the end of the text"),
+            Error::OutOfRange => write!(f, "a position or a number of a literal is out of range"),
             Error::Unexpected { status } => write!(f, "status {status} of the library"),
         }
     }

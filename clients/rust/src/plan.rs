@@ -71,8 +71,12 @@ pub struct Plan {
     info: sys::Info,
 }
 
-// SAFETY: the library lets another thread use a handle, one call at a time. `Plan` is not `Sync`, so calls by `&Plan` come from one
-// thread.
+// SAFETY: rule 2 of `fiolargu.h` has two parts.
+// - One call at a time uses a handle. `Plan` is not `Sync`, so at most one thread has a `&Plan`.
+// - A handle goes to another thread by a lock, by the start or the end of a thread, or by a sequentially consistent atomic. Safe
+//   Rust also has channels and atomics with release and acquire, which the rule does not name. They are enough: each call in the
+//   first thread happens before each call in the second. Handles share the plan, which no call changes, and the atomic count of
+//   its owners.
 unsafe impl Send for Plan {}
 
 impl Plan {

@@ -13,8 +13,8 @@ pub struct Stream {
     buffer: Vec<Hit>,
 }
 
-// SAFETY: the library lets another thread use a handle, one call at a time. `Stream` is not `Sync`, so calls by `&Stream` come from
-// one thread.
+// SAFETY: rule 2 of `fiolargu.h`, as for `Plan`. `Stream` is not `Sync`, so at most one thread has a `&Stream`. Each safe way to
+// another thread puts the calls before it and after it in order. A stream shares nothing but its plan with other handles.
 unsafe impl Send for Stream {}
 
 impl Stream {

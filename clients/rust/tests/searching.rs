@@ -133,6 +133,7 @@ fn refusals() -> Result {
     assert_eq!(plan.next_end(b"cat", 4).unwrap_err(), Error::OutOfRange);
     assert_eq!((plan.next_end(b"cat", 3)?, plan.count(b"")?), (None, 0));
     assert_eq!(Error::LiteralTooLong { place: 7 }.to_string(), "pattern 7 has more than 4,095 bytes");
+    assert_eq!(Error::OutOfRange.to_string(), "a position or a number of a literal is out of range");
     assert_eq!(Error::OutOfRange.number(), 23);
     Ok(())
 }
