@@ -1,10 +1,7 @@
 //! Serving one connection to its end.
-ghost use Rattle.std.specs.Prelude.{All};
-ghost use Rattle.plan_store.specs.Tickets.{IsOf};
-
+use crate::loaded_store::LoadedStore;
 use crate::serving::serve_loaded;
 use byte_io::{FromRead, ToWrite};
-use plan_store::{PlanStore, Ticket};
 use scan_serve::Ended;
 use std::alloc::Global;
 use std::io::Read;
@@ -18,20 +15,16 @@ const DRAIN_SECONDS: u64 = 1;
 /// Such reads, at most.
 const DRAIN_READS: usize = 1024;
 
-/// Serves a connection as a session of the store, beside the plans of `loaded`.
+/// Serves a connection as a session of the store.
 pub(crate) fn serve_connection<R: Wait>(
     rt: &R,
     alloc: Global,
-    store: &PlanStore,
-    loaded: &[Ticket],
+    loaded: LoadedStore<'_>,
     stream: TcpStream,
-) -> Ended
-    requires { All (IsOf store.now) loaded.now }
-{
+) -> Ended {
     let ended = serve_loaded(
         rt,
         alloc,
-        store,
         loaded,
         &mut FromRead::new(&stream),
         &mut ToWrite::new(&stream),

@@ -6,6 +6,7 @@ ghost use Rattle.scan_run.specs.Reports.{ReportsSome};
 
 use crate::connection::serve_connection;
 use crate::connections::{Connections, MAX_CONNECTIONS};
+use crate::loaded_store::LoadedStore;
 use crate::report::report;
 use crate::status::Status;
 use arrayvec::ArrayVec;
@@ -17,23 +18,20 @@ use std::net::{TcpListener, TcpStream};
 use std::sync::Wait;
 use std::thread::{self, JoinHandle, Scope, Threads};
 
-/// Accepts the given number of connections, and serves each in a thread of its own, as a session of the store. `loaded`
-/// are the tickets of plans that were published before. When all have ended, it reports on `out` how, a line for each
-/// in order of acceptance. Once the last one is accepted, or accepting failed, the listener is closed, so that a late
-/// client is refused.
+/// Accepts the given number of connections, and serves each in a thread of its own, as a session of the store. When all
+/// have ended, it reports on `out` how, a line for each in order of acceptance. Once the last one is accepted, or
+/// accepting failed, the listener is closed, so that a late client is refused.
 ///
 /// It waits for clients, and for as long as they keep their connections.
 pub fn listen<R: Threads + Wait + Sync, O: ByteOut, E: ByteOut>(
     rt: &R,
     alloc: Global,
-    store: &PlanStore,
-    loaded: &[Ticket],
+    loaded: LoadedStore<'_>,
     listener: TcpListener,
     connections: Connections,
     out: &mut O,
     err: &mut E,
 ) -> Status
-    requires { All (IsOf store.now) loaded.now }
     ensures reported { ReportsSome connections.count result (O.has_failed out.new)
         (E.has_failed err.old) (E.has_failed err.new)
         (O.written out.old) (O.written out.new) (E.written err.old) (E.written err.new) }
@@ -42,7 +40,8 @@ pub fn listen<R: Threads + Wait + Sync, O: ByteOut, E: ByteOut>(
     ensures fault { result ≢ Status.Trouble
         → (O.has_failed out.new || E.has_failed err.new) ≡ (O.has_failed out.old || E.has_failed err.old) }
 {
-    let served = serve_all(rt, alloc, store, loaded, listener, connections.count());
+    let LoadedStore { store, tickets } = loaded;
+    let served = serve_all(rt, alloc, store, tickets, listener, connections.count());
     report(alloc, &served.endings, served.faulty, out, err)
 }
 
@@ -58,17 +57,18 @@ struct Outcome {
 /// The threads that serve connections, in order of acceptance; `None` where none could be started.
 type ServingThreads = ArrayVec<Option<JoinHandle<Ended>>, MAX_CONNECTIONS>;
 
-/// Serves the connections to their ends.
+/// Serves the connections to their ends. It takes the parts of a `LoadedStore`, since nothing would be known of the
+/// result of a closure that captures one.
 fn serve_all<R: Threads + Wait + Sync>(
     rt: &R,
     alloc: Global,
     store: &PlanStore,
-    loaded: &[Ticket],
+    tickets: &[Ticket],
     listener: TcpListener,
     connections: usize,
 ) -> Outcome
     requires some { AreConnections connections }
-    requires here { All (IsOf store.now) loaded.now }
+    requires here { All (IsOf store.now) tickets.now }
     ensures few { length result.endings.items ≤ connections }
     ensures all { result.faulty ≡ false → length result.endings.items ≡ connections }
 {
@@ -76,14 +76,14 @@ fn serve_all<R: Threads + Wait + Sync>(
         thread::scope_env(),
         rt,
         |scope|
-            requires { AreConnections connections × All (IsOf store.now) loaded.now }
+            requires { AreConnections connections × All (IsOf store.now) tickets.now }
         {
             let (threads, faulty) = accept_all(
                 scope,
                 rt,
                 alloc,
                 store,
-                loaded,
+                tickets,
                 listener,
                 connections,
             );
@@ -101,12 +101,12 @@ fn accept_all<'s, E, R: Threads + Wait + Sync>(
     rt: &'s R,
     alloc: Global,
     store: &'s PlanStore,
-    loaded: &'s [Ticket],
+    tickets: &'s [Ticket],
     listener: TcpListener,
     connections: usize,
 ) -> (ServingThreads, bool)
     requires some { AreConnections connections }
-    requires here { All (IsOf store.now) loaded.now }
+    requires here { All (IsOf store.now) tickets.now }
     ensures few { length result.0.items ≤ connections }
     ensures all { result.1 ≡ false → length result.0.items ≡ connections }
 {
@@ -117,8 +117,8 @@ fn accept_all<'s, E, R: Threads + Wait + Sync>(
         };
         let thread = scope.spawn(
             move || -> Ended
-                requires { All (IsOf store.now) loaded.now }
-            { serve_connection(rt, alloc, store, loaded, stream) },
+                requires { All (IsOf store.now) tickets.now }
+            { serve_connection(rt, alloc, LoadedStore { store, tickets }, stream) },
         );
         threads.push(thread.ok());
     }

@@ -9,6 +9,7 @@ ghost use Rattle.scan_run.specs.Beside.{IsEventBeside};
 ghost use Rattle.scan_run.specs.Seen.{IsStepByBytes};
 
 use crate::answering::answer_request;
+use crate::loaded_store::LoadedStore;
 use byte_io::{ByteIn, ByteOut};
 use plan_store::{PlanStore, Ticket};
 use scan_core::Session;
@@ -137,18 +138,16 @@ pub fn serve_session<'s, R: Wait, I: ByteIn, O: ByteOut>(
     serve_beside(rt, alloc, session, &[], input, out)
 }
 
-/// Serves a session of the store as `serve` does. `loaded` are tickets of plans that were published before: no plan
-/// that the session publishes or opens has the number of another loaded plan, and an Open finds each of them.
+/// Serves a session of the store as `serve` does. No plan that the session publishes or opens has the number of another
+/// loaded plan, and an Open finds each of them.
 pub fn serve_loaded<R: Wait, I: ByteIn, O: ByteOut>(
     rt: &R,
     alloc: Global,
-    store: &PlanStore,
-    loaded: &[Ticket],
+    loaded: LoadedStore<'_>,
     input: &mut I,
     out: &mut O,
 ) -> Ended
-    requires { All (IsOf store.now) loaded.now }
-    ensures ends { (after : Serving) × EndsAs (IsEventBeside loaded.now) (fresh store.now) after
+    ensures ends { (after : Serving) × EndsAs (IsEventBeside loaded.entry.tickets.now) (fresh loaded.entry.store.now) after
         (I.coming input.old) (I.coming input.new)
         (O.written out.old) (O.written out.new) [] result }
     ensures read_fault { result ≡ Ended.ReadFault
@@ -157,7 +156,8 @@ pub fn serve_loaded<R: Wait, I: ByteIn, O: ByteOut>(
     ensures unread { result ≢ Ended.ReadFault → I.has_failed input.new ≡ I.has_failed input.old }
     ensures unwritten { result ≢ Ended.WriteFault → O.has_failed out.new ≡ O.has_failed out.old }
 {
-    let (ended, _session) = serve_beside(rt, alloc, Session::new(store), loaded, input, out);
+    let session = Session::new(loaded.store);
+    let (ended, _session) = serve_beside(rt, alloc, session, loaded.tickets, input, out);
     ended
 }
 

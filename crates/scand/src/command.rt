@@ -1,7 +1,6 @@
 //! What a command does.
-ghost use Rattle.std.specs.Prelude.{◌≡◌, ◌||◌, All, IfOk, string_bytes};
+ghost use Rattle.std.specs.Prelude.{◌≡◌, ◌||◌, IfOk, string_bytes};
 ghost use Rattle.byte_io.specs.Transfers.{Says};
-ghost use Rattle.plan_store.specs.Tickets.{IsOf};
 ghost use Rattle.program_words.specs.Words.{message_on};
 ghost use Rattle.scan_run.specs.Alone.{MayHaveFailed};
 ghost use Rattle.scan_run.specs.Messages.{out_of_memory};
@@ -9,9 +8,9 @@ ghost use Rattle.scand.specs.Commands.{EndsSomehow, Runs, Serves, ServesPort, ca
 
 use crate::words::{Request, Service, requested};
 use byte_io::{ByteIn, ByteOut, Failed, Opener, say_text};
-use plan_store::{PlanStore, Ticket};
+use plan_store::PlanStore;
 use program_words::{Fault, words};
-use scan_run::{Connections, Status, listen, load_files, say_port, serve_alone};
+use scan_run::{Connections, LoadedStore, Status, listen, load_files, say_port, serve_alone};
 use std::alloc::{AllocError, Global};
 use std::net::{Ipv4Addr, Net, TcpListener, TcpStream};
 use std::rt::Env;
@@ -73,24 +72,21 @@ where
     };
     let mut tickets = Vec::new(alloc);
     match load_files(rt, alloc, &store, files, &request.plans, &mut tickets, err) {
-        Ok(()) => serve_over(
-            rt,
-            &store,
-            tickets.as_slice(),
-            request.service,
-            input,
-            out,
-            err,
-        ),
+        Ok(()) => {
+            let loaded = LoadedStore {
+                store: &store,
+                tickets: tickets.as_slice(),
+            };
+            serve_over(rt, loaded, request.service, input, out, err)
+        }
         Err(_) => Status::Trouble,
     }
 }
 
-/// Serves one client or connections, over a store beside its loaded plans.
+/// Serves one client, or connections, over a store.
 fn serve_over<R, I: ByteIn, O: ByteOut, E: ByteOut>(
     rt: &R,
-    store: &PlanStore,
-    loaded: &[Ticket],
+    loaded: LoadedStore<'_>,
     service: Service,
     input: &mut I,
     out: &mut O,
@@ -98,8 +94,7 @@ fn serve_over<R, I: ByteIn, O: ByteOut, E: ByteOut>(
 ) -> Status
 where
     R: AllocGlobal + Threads + Wait + Sync + Net<Listener = TcpListener, Stream = TcpStream>,
-    requires here { All (IsOf store.now) loaded.now }
-    ensures serves { Serves service store.now loaded.now result
+    ensures serves { Serves service loaded.entry.store.now loaded.entry.tickets.now result
         (MayHaveFailed (I.has_failed input.new) (I.given input.old) (I.given input.new)) (O.has_failed out.new) (E.has_failed err.new)
         (I.coming input.old) (I.coming input.new) (O.written out.old) (O.written out.new) (E.written err.old) (E.written err.new) }
     ensures unread { result ≡ Status.Clean → I.has_failed input.new ≡ I.has_failed input.old }
@@ -107,9 +102,9 @@ where
         → (O.has_failed out.new || E.has_failed err.new) ≡ (O.has_failed out.old || E.has_failed err.old) }
 {
     match service {
-        Service::Alone => serve_alone(rt, rt.alloc(), store, loaded, input, out),
+        Service::Alone => serve_alone(rt, rt.alloc(), loaded, input, out),
         Service::Listen { port, connections } => {
-            serve_port(rt, store, loaded, port, connections, out, err)
+            serve_port(rt, loaded, port, connections, out, err)
         }
     }
 }
@@ -117,8 +112,7 @@ where
 /// Serves connections to a port of this machine. The system chooses it where it is 0.
 fn serve_port<R, O: ByteOut, E: ByteOut>(
     rt: &R,
-    store: &PlanStore,
-    loaded: &[Ticket],
+    loaded: LoadedStore<'_>,
     port: u16,
     connections: Connections,
     out: &mut O,
@@ -126,7 +120,6 @@ fn serve_port<R, O: ByteOut, E: ByteOut>(
 ) -> Status
 where
     R: AllocGlobal + Threads + Wait + Sync + Net<Listener = TcpListener, Stream = TcpStream>,
-    requires here { All (IsOf store.now) loaded.now }
     ensures serves { ServesPort port connections.count result (O.has_failed out.new) (E.has_failed err.new)
         (O.written out.old) (O.written out.new) (E.written err.old) (E.written err.new) }
     ensures fault { result ≡ Status.Clean
@@ -136,18 +129,9 @@ where
         return refuse(&Fault::usage(cannot_listen(rt.alloc(), port)), err);
     };
     if port == 0 {
-        serve_chosen(rt, store, loaded, listener, connections, out, err)
+        serve_chosen(rt, loaded, listener, connections, out, err)
     } else {
-        listen(
-            rt,
-            rt.alloc(),
-            store,
-            loaded,
-            listener,
-            connections,
-            out,
-            err,
-        )
+        listen(rt, rt.alloc(), loaded, listener, connections, out, err)
     }
 }
 
@@ -155,8 +139,7 @@ where
 /// nothing is served.
 fn serve_chosen<R, O: ByteOut, E: ByteOut>(
     rt: &R,
-    store: &PlanStore,
-    loaded: &[Ticket],
+    loaded: LoadedStore<'_>,
     listener: TcpListener,
     connections: Connections,
     out: &mut O,
@@ -164,7 +147,6 @@ fn serve_chosen<R, O: ByteOut, E: ByteOut>(
 ) -> Status
 where
     R: AllocGlobal + Threads + Wait + Sync + Net<Listener = TcpListener, Stream = TcpStream>,
-    requires here { All (IsOf store.now) loaded.now }
     ensures serves { ServesPort 0 connections.count result (O.has_failed out.new) (E.has_failed err.new)
         (O.written out.old) (O.written out.new) (E.written err.old) (E.written err.new) }
     ensures fault { result ≡ Status.Clean
@@ -174,16 +156,7 @@ where
         return refuse(&Fault::usage(cannot_listen(rt.alloc(), 0)), err);
     };
     match say_port(chosen.port(), err) {
-        Ok(()) => listen(
-            rt,
-            rt.alloc(),
-            store,
-            loaded,
-            listener,
-            connections,
-            out,
-            err,
-        ),
+        Ok(()) => listen(rt, rt.alloc(), loaded, listener, connections, out, err),
         Err(Failed) => Status::Trouble,
     }
 }
