@@ -13,8 +13,8 @@ returns-in_default-clause-runs g c = Starved c.refuse.ensures.status refl refl (
 pub invariant_of-loaded : goal.invariant_of-loaded
 invariant_of-loaded g c = record {
   here = subst (All (IsOf c.in-Ok.store)) (sym c.as_slice.ensures.value)
-    (each-here c.in-Ok.store _ (state (g.F.Opener.sources c.args.files.now) [] (g.E.ByteOut.written c.args.err.now)) _ (λ k d less. absurd (omega (arith, less)))
-    (rw (c.deref.ensures.value, c.new-tickets.ensures.items) at c.in-Ok-load_files.ensures.ok));
+      (each-here c.in-Ok.store _ (state (g.F.Opener.sources c.args.files.now) [] (g.E.ByteOut.written c.args.err.now)) _ (λ k d less. absurd (omega (arith, less)))
+      (rw (c.deref.ensures.value, c.new-tickets.ensures.items) at c.in-Ok-load_files.ensures.ok));
 }
 
 pub returns-in-Ok-load_files-clause-runs : goal.returns-in-Ok-load_files-clause-runs
