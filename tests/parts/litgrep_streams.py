@@ -50,6 +50,17 @@ def long_lists():
         yield "the same, counted", run(["-c", "-f", "p", "t"], cwd=folder), (0, b"%d\n" % (len(found) * 50), b"")
 
 
+def long_names():
+    """Files of empty lines, one under a name of 2,000 bytes: all lines are shown, and the run holds a few MiB of them."""
+    with tempfile.TemporaryDirectory() as folder:
+        name = "/".join(["d" * 200] * 10) + "/f"
+        os.makedirs(os.path.join(folder, os.path.dirname(name)))
+        lay_out(folder, {"f": b"\n" * 150000, name: b"\n" * 20000})
+        want = b"f:\n" * 150000 + (name.encode() + b":\n") * 20000
+        limit = lambda: resource.setrlimit(resource.RLIMIT_AS, (ROOM // 4, ROOM // 4))
+        yield "a name of 2,000 bytes", run(["", "f", name], cwd=folder, preexec_fn=limit) == (0, want, b""), True
+
+
 # The bytes of a line that no memory holds, and the memory that a run may have.
 ENDLESS, ROOM = 300 << 20, 64 << 20
 
@@ -209,4 +220,4 @@ def batches():
         yield "a batch of names", shown, (123, b"./f:cat\n./g:2 cat\n", b"litgrep: ./caf\\xe9: cannot be read\n")
 
 
-TESTS = (edges, unseen_lines, streams, prompt, own_outputs, batches)
+TESTS = (edges, long_names, unseen_lines, streams, prompt, own_outputs, batches)
