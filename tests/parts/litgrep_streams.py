@@ -57,8 +57,8 @@ def long_names():
         os.makedirs(os.path.join(folder, os.path.dirname(name)))
         lay_out(folder, {"f": b"\n" * 150000, name: b"\n" * 20000})
         want = b"f:\n" * 150000 + (name.encode() + b":\n") * 20000
-        limit = lambda: resource.setrlimit(resource.RLIMIT_AS, (ROOM // 4, ROOM // 4))
-        yield "a name of 2,000 bytes", run(["", "f", name], cwd=folder, preexec_fn=limit) == (0, want, b""), True
+        got = run(["", "f", name], cwd=folder, preexec_fn=lambda: resource.setrlimit(resource.RLIMIT_AS, (ROOM // 4, ROOM // 4)))
+        yield "a name of 2,000 bytes", got == (0, want, b""), True
 
 
 # The bytes of a line that no memory holds, and the memory that a run may have.
