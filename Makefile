@@ -5,10 +5,11 @@
 #   make CPU=x86-64-v2      the same for any processor of the last fifteen years
 #   make VERBOSE=1          the programs, with the prover's output as it comes
 #   make check              proves and tests everything, the first time from nothing, then runs the tests of the programs
-#                           that this built
+#                           that this built, in out/check/
 #   make test               the programs' tests alone, over what `make` builds
 #   make dist               packs the programs into dist/ for machines without the kit; it needs a processor of level x86-64-v3
-#   make check-deploy       tries what is in clients/, tools/ and deploy/, with Debian's packages, on this machine
+#   make check-deploy       tries what is in clients/, tools/ and deploy/, with Debian's packages and the C library, on this
+#                           machine
 #   make check-dist         makes dist/, installs the package in a bare Debian, uses it and purges it; as root
 #   make sweep              refuses each growth, read, write and thread of the programs, and growths of the crates' tests;
 #                           `make test` draws a sample of them
@@ -35,8 +36,9 @@ V3_FLAGS = avx2 bmi1 bmi2 f16c fma abm movbe
 CPU := $(if $(filter-out $(shell grep -m1 '^flags' /proc/cpuinfo),$(V3_FLAGS)),x86-64-v2,x86-64-v3)
 
 # tools/build.py proves crates side by side and says why that needs copies of the tree. Its processors are those of -j, or
-# all. It proves again only what changed.
-JOBS = $(filter -j%,$(MAKEFLAGS))
+# all. It proves again only what changed. No two targets are made at once, since they build the same crates.
+.NOTPARALLEL:
+JOBS = $(filter-out -j,$(filter -j%,$(MAKEFLAGS)))
 build_for = tools/build.py --cpu $(1) $(JOBS) $(if $(VERBOSE),--verbose) $(2)
 build = $(call build_for,$(CPU),$(1))
 
@@ -47,20 +49,21 @@ all:
 TRIED = $(PROGRAMS) $(PROBES) $(EXAMPLES)
 
 # The programs as the gate proved and built them, and the C library over what it proved: another build would prove each
-# crate once more. The next `make` builds its own.
+# crate once more. They are for any processor, so bin/ and lib/ keep what `make` built for this one.
+CHECKED = out/check
 check:
 	rt ci
-	@mkdir -p bin
-	cp $(foreach program,$(TRIED),crates/$(program)/out/$(program)) bin/
+	@rm -rf $(CHECKED) && mkdir -p $(CHECKED)/bin
+	cp $(foreach program,$(TRIED),crates/$(program)/out/$(program)) $(CHECKED)/bin/
 	tools/gate_archive.py fiolargu
-	tools/library.py --v2 crates/fiolargu/out --v3 crates/fiolargu/out
-	python3 tests/run.py
+	tools/library.py --v2 crates/fiolargu/out --v3 crates/fiolargu/out --into $(CHECKED)
+	python3 tests/run.py --programs $(CHECKED)/bin
 
 test: library
 	@$(call build,$(TRIED))
 	python3 tests/run.py
 
-check-deploy: all
+check-deploy: all library
 	python3 tests/deploy.py
 
 # The crates with tests; `rt test` leaves their programs of tests.
@@ -100,7 +103,7 @@ examples:
 INSTALL_STRIP = -s
 BINDIR = $(PREFIX)/bin
 LIBDIR = $(PREFIX)/lib
-UNITDIR = $(LIBDIR)/systemd/system
+UNITDIR = $(PREFIX)/lib/systemd/system
 PYTHONDIR = $(PREFIX)/share/fiolargu/clients/python
 DOCDIR = $(PREFIX)/share/doc/fiolargu
 install_to = tools/install.py --prefix '$(PREFIX)' --destdir '$(DESTDIR)' --bindir '$(BINDIR)' --libdir '$(LIBDIR)' \

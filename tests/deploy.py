@@ -5,7 +5,8 @@
     python3 tests/deploy.py PART..      plays these parts; --help names them
 
 Installs from Debian's packages what the parts need in addition to the programs in bin/, where the caller may do that.
-Leaves out each part that lacks a program, and says so. Prints each check that fails, then 'N passed, M failed'."""
+Leaves out each part that lacks a program, and says so. Prints each check that fails, then 'N passed, M failed'. The status
+is 1 where a check fails, or where none was played."""
 
 import argparse
 import importlib
@@ -71,7 +72,7 @@ def run(names):
         passed, failed = passed + right, failed + wrong
         print(f"{name}: {right + wrong} checks", flush=True)
     print(f"{passed} passed, {failed} failed")
-    return 1 if failed else 0
+    return 0 if passed and not failed else 1
 
 
 def main():

@@ -4,7 +4,8 @@
     python3 tests/dist.py [--dist DIR] [--suite NAME]
 
 Needs root. It makes a root of Debian oldstable by mmdebstrap or debootstrap, which it installs where it may, and removes
-it at the end. Prints what it leaves out, each check that fails, then 'N passed, M failed'."""
+it at the end. Prints what it leaves out, each check that fails, then 'N passed, M failed'. The status is 1 where a check
+fails, or where there is no such root."""
 
 import argparse
 import contextlib
@@ -203,8 +204,11 @@ def server(root):
 
 
 def purged(root, packages, before):
-    """The packages are purged, and nothing of them remains."""
+    """The packages are purged, and nothing of them remains, though the server was enabled."""
     yield "a file of a package", "usr/bin/litgrep" in root.files() - before, True
+    yield "systemctl enable", root.run("systemctl --quiet enable scand.socket scand-port@7001.service")[0], 0
+    links = {"sockets.target.wants/scand.socket", "multi-user.target.wants/scand-port@7001.service"}
+    yield "missing links", links - {name.removeprefix("etc/systemd/system/") for name in root.files()}, set()
     status, shown = root.run(f"apt-get purge -y {' '.join(names_of(packages))}")
     yield f"apt-get purge: {shown[-300:]}", status, 0
     yield "what remains", sorted(root.files() - before), []
@@ -243,7 +247,7 @@ def main():
         hindrance = bootstrapped(options.suite, os.path.join(folder, "root"))
         if hindrance:
             print(f"left out: everything, for want of {hindrance}")
-            return 0
+            return 1
         root = Root(os.path.join(folder, "root"))
         os.makedirs(root.at("tmp/tried"))
         os.symlink("/usr/bin", root.at("tmp/tried/bin"))

@@ -1,11 +1,11 @@
 #!/usr/bin/env python3
 """Packs built programs for machines without the kit: an archive, Debian packages, BUILDINFO and SHA256SUMS.
 
-    tools/dist.py --programs-v2 DIR --programs-v3 DIR [--gate FILE] [--into DIR]
+    tools/dist.py --programs-v2 DIR --programs-v3 DIR [--library DIR] [--gate FILE] [--into DIR]
 
 `make dist` calls it. The packages have the programs for x86-64-v2, the archive those for x86-64-v3 too. The same commit
-and programs give the same bytes. Prints the newest version of the C library's symbols that the programs need, and stops
-if Debian oldstable is older."""
+and programs give the same bytes. Prints the newest version of glibc's symbols that the programs and the library need, and
+stops if Debian oldstable is older."""
 
 import argparse
 import collections
@@ -23,7 +23,7 @@ import time
 import install
 
 TOP = install.TOP
-# The C library of Debian oldstable, which is Debian 12 ("bookworm", in whose Release file the suite is oldstable since the
+# glibc of Debian oldstable, which is Debian 12 ("bookworm", in whose Release file the suite is oldstable since the
 # release of Debian 13): its package libc6 is 2.36-9+deb12u14.
 OLDSTABLE_GLIBC = 2, 36
 # The libraries that a package may need: all are in Debian's libc6.
@@ -37,6 +37,12 @@ DEBIAN_FOLDERS = {
     "pythondir": "/usr/lib/python3/dist-packages",
     "docdir": "/usr/share/doc/litgrep",
 }
+# Before its package goes, the server is disabled and stopped. Where systemd does not run there are only links to remove.
+STOP_SERVICES = """if [ "$1" = remove ] && command -v systemctl > /dev/null; then
+    systemctl --quiet disable scand.socket scand-port@.service || true
+    [ ! -d /run/systemd/system ] || systemctl stop scand.socket 'scand@*.service' 'scand-port@*.service' || true
+fi
+"""
 
 Package = collections.namedtuple("Package", "name section files depends summary text")
 # The packages, each with the files that go into it: the first pattern that fits decides. One without files is not made.
@@ -96,14 +102,14 @@ def git(*words):
 
 
 def needs_of(path):
-    """The libraries that a program loads, and the versions of the C library's symbols that it uses."""
+    """The libraries that a program or a library loads, and the versions of glibc's symbols that it uses."""
     shown = subprocess.run(["readelf", "--wide", "-d", "-V", path], check=True, capture_output=True, text=True).stdout
     versions = re.findall(r"Name: GLIBC_([\d.]+)", shown)
     return set(re.findall(r"NEEDED.*\[(.*)\]", shown)), {tuple(map(int, version.split("."))) for version in versions}
 
 
 def newest_glibc(paths):
-    """The oldest C library that has all symbols of some programs. Stops if Debian oldstable has none such."""
+    """The oldest glibc that has all symbols which these files use. Stops if the one of Debian oldstable is older."""
     newest = 2, 2
     for path in paths:
         libraries, versions = needs_of(path)
@@ -111,7 +117,7 @@ def newest_glibc(paths):
             sys.exit(f"dist: {path} needs {', '.join(sorted(libraries - OF_LIBC))}, which the packages do not ask for")
         newest = max(newest, *(version[:2] for version in versions)) if versions else newest
     needed, oldstable = (".".join(map(str, version)) for version in (newest, OLDSTABLE_GLIBC))
-    print(f"dist: the programs need GLIBC_{needed}; Debian oldstable has {oldstable}", flush=True)
+    print(f"dist: the files need GLIBC_{needed}; Debian oldstable has {oldstable}", flush=True)
     if newest > OLDSTABLE_GLIBC:
         sys.exit("dist: that is too new: build the programs on Debian oldstable")
     return needed
@@ -134,12 +140,24 @@ def settle(folder, epoch):
             os.utime(path, (epoch, epoch), follow_symlinks=False)
 
 
-def archive(release, programs, folder, into):
+def linked(built):
+    """The programs of both levels, and the shared objects of the library where it was built."""
+    found = [os.path.join(built[level], program) for level in ("v2", "v3") for program in install.PROGRAMS]
+    objects = [os.path.join(built["library"], name) for name, _ in install.LIBRARY if name.endswith(".so.0")]
+    return found + [name for name in objects if os.path.isfile(name)]
+
+
+def installed(built, *words):
+    """Installs the files of the packages, with the programs for every processor."""
+    install.main([*words, "--programs", built["v2"], "--library", built["library"], "--strip"])
+
+
+def archive(release, built, folder, into):
     """Makes the archive. Its files are laid out for /usr/local; install.sh puts them there or elsewhere."""
     staged = os.path.join(folder, "archive")
-    install.main(["--prefix", f"/{ARCHIVE_PREFIX}", "--destdir", staged, "--programs", programs["v2"], "--strip"])
+    installed(built, "--prefix", f"/{ARCHIVE_PREFIX}", "--destdir", staged)
     top = os.path.join(staged, ARCHIVE_PREFIX)
-    fast = install.parsed(["--programs", programs["v3"], "--strip"])
+    fast = install.parsed(["--programs", built["v3"], "--strip"])
     for program in install.PROGRAMS:
         install.put(os.path.join(fast.programs, program), os.path.join(top, FAST, program), fast)
     shutil.copy(os.path.join(TOP, "tools", "install.sh"), top)
@@ -172,11 +190,11 @@ def compress(path):
     os.remove(path)
 
 
-def staged_for_debian(programs, folder):
+def staged_for_debian(built, folder):
     """Installs all files where Debian has them, and answers the folder and the paths of the files."""
     staged = os.path.join(folder, "debian")
     folders = [word for name, folder in DEBIAN_FOLDERS.items() for word in (f"--{name}", folder)]
-    install.main([*folders, "--destdir", staged, "--programs", programs["v2"], "--strip"])
+    installed(built, *folders, "--destdir", staged)
     for parent, _, names in os.walk(os.path.join(staged, "usr", "share", "man")):
         for name in names:
             compress(os.path.join(parent, name))
@@ -225,11 +243,13 @@ def packaged(release, package, folder, into):
         sums += [os.path.join(parent, name) for name in sorted(names) if not os.path.islink(os.path.join(parent, name))]
     write("".join(f"{digest(path, 'md5')}  {os.path.relpath(path, folder)}\n" for path in sums), folder, "DEBIAN", "md5sums")
     write(text, folder, "DEBIAN", "control")
+    # Python keeps what it compiles beside the modules. A purge is to leave nothing.
     modules = sorted({os.path.dirname(path[len(folder) :]) for path in sums if path.endswith(".py")})
-    if modules:
-        # Python keeps what it compiles beside the modules. A purge is to leave nothing.
-        caches = "".join(f"rm -rf {module}/__pycache__\n" for module in modules)
-        write(f"#!/bin/sh\nset -e\n{caches}", folder, "DEBIAN", "prerm")
+    before = "".join(f"rm -rf {module}/__pycache__\n" for module in modules)
+    if os.path.isdir(folder + DEBIAN_FOLDERS["unitdir"]):
+        before += STOP_SERVICES
+    if before:
+        write(f"#!/bin/sh\nset -e\n{before}", folder, "DEBIAN", "prerm")
         os.chmod(os.path.join(folder, "DEBIAN", "prerm"), 0o755)
     if package.section == "libs":
         write("activate-noawait ldconfig\n", folder, "DEBIAN", "triggers")
@@ -242,9 +262,9 @@ def packaged(release, package, folder, into):
     return target
 
 
-def packages(release, programs, folder, into):
+def packages(release, built, folder, into):
     """Makes each package that has files."""
-    staged, paths = staged_for_debian(programs, folder)
+    staged, paths = staged_for_debian(built, folder)
     files = collections.defaultdict(list)
     for path in paths:
         files[next(package for package in PACKAGES if re.match(package.files, path))].append(path)
@@ -266,19 +286,21 @@ def main():
     parser = argparse.ArgumentParser(description=__doc__.splitlines()[0])
     parser.add_argument("--programs-v2", required=True, metavar="DIR", help="the programs for x86-64-v2")
     parser.add_argument("--programs-v3", required=True, metavar="DIR", help="the programs for x86-64-v3")
+    parser.add_argument("--library", default=TOP, metavar="DIR", help="where lib/ and include/ are (the top of the repository)")
     gate = os.path.join(TOP, "dist", "gate.txt")
     parser.add_argument("--gate", default=gate, metavar="FILE", help="the gate's output, if there is one (dist/gate.txt)")
     parser.add_argument("--into", default=os.path.join(TOP, "dist"), metavar="DIR", help="the folder of the release (dist/)")
     options = parser.parse_args()
-    programs = {"v2": os.path.abspath(options.programs_v2), "v3": os.path.abspath(options.programs_v3)}
+    built = {"v2": options.programs_v2, "v3": options.programs_v3, "library": options.library}
+    built = {name: os.path.abspath(folder) for name, folder in built.items()}
     os.umask(0o022)
     release = Release(options.gate)
-    release.glibc = newest_glibc(os.path.join(folder, program) for folder in programs.values() for program in install.PROGRAMS)
+    release.glibc = newest_glibc(linked(built))
     os.makedirs(options.into, exist_ok=True)
     with tempfile.TemporaryDirectory() as folder:
-        made = [archive(release, programs, folder, options.into)]
+        made = [archive(release, built, folder, options.into)]
         if shutil.which("dpkg-deb"):
-            made += packages(release, programs, folder, options.into)
+            made += packages(release, built, folder, options.into)
         else:
             print("dist: left out: the Debian packages, for want of dpkg-deb")
     write(release.buildinfo(), options.into, "BUILDINFO")

@@ -1,7 +1,7 @@
 #!/usr/bin/env python3
 """Installs the programs with manuals, completions, clients, systemd units and documents, or removes them again.
 
-    tools/install.py [--prefix DIR] [--destdir DIR] [--programs DIR] [--strip] [--uninstall]
+    tools/install.py [--prefix DIR] [--destdir DIR] [--programs DIR] [--library DIR] [--strip] [--uninstall]
 
 `make install` and `make dist` call it. A file is written under another name and then renamed, so a running program can be
 replaced."""
@@ -25,8 +25,8 @@ FOLDERS = {
     "pythondir": ("share/fiolargu/clients/python", "Python packages"),
     "docdir": ("share/doc/fiolargu", "documents"),
 }
-# Files of the repository by their patterns, each with its folder. `**` stands for a folder with all that is in it; such
-# a folder keeps its form, and may be missing.
+# Files of the repository by their patterns, each with its folder. `**` stands for a folder with all that is in it, which
+# keeps its form.
 FILES = (
     *((f"man/*.{section}", f"{{prefix}}/share/man/man{section}") for section in range(1, 9)),
     ("completions/bash/*", "{prefix}/share/bash-completion/completions"),
@@ -52,8 +52,15 @@ FILES = (
     ("docs/*", "{docdir}/docs"),
     ("bench/*.md", "{docdir}/bench"),
     ("bench/*.svg", "{docdir}/bench"),
-    ("include/**", "{prefix}/include"),
-    ("lib/**", "{libdir}"),
+)
+# The files of the C library, which may be missing, each with its folder.
+LIBRARY = (
+    ("include/fiolargu.h", "{prefix}/include"),
+    ("lib/libfiolargu.a", "{libdir}"),
+    ("lib/libfiolargu.so", "{libdir}"),
+    ("lib/libfiolargu.so.0", "{libdir}"),
+    ("lib/glibc-hwcaps/x86-64-v3/libfiolargu.so.0", "{libdir}/glibc-hwcaps/x86-64-v3"),
+    ("lib/pkgconfig/fiolargu.pc", "{libdir}/pkgconfig"),
 )
 # What units name as the folder of the programs, and how fiolargu.pc finds the prefix from its own folder.
 WRITTEN_BINDIR = b"/usr/local/bin/"
@@ -61,7 +68,7 @@ WRITTEN_PREFIX = b"prefix=${pcfiledir}/../.."
 
 
 def listed(options):
-    """The files to install: each source with its target, below the root of the file system."""
+    """The files to install or to remove: each source with its target, below the root of the file system."""
     folders = vars(options)
     for program in PROGRAMS:
         yield os.path.join(options.programs, program), os.path.join(options.bindir, program)
@@ -70,6 +77,11 @@ def listed(options):
         for source in sorted(glob.glob(os.path.join(TOP, pattern), recursive=True)):
             if os.path.isfile(source) and "__pycache__" not in source:
                 yield source, os.path.normpath(os.path.join(folder.format(**folders), os.path.relpath(source, base)))
+    for name, folder in LIBRARY:
+        source = os.path.join(options.library, name)
+        # What was installed is removed, though the tree may have been cleaned since.
+        if options.uninstall or os.path.isfile(source):
+            yield source, os.path.join(folder.format(**folders), os.path.basename(name))
 
 
 def put(source, target, options):
@@ -101,8 +113,11 @@ def remove(target, options):
     """Removes a file, and then its folder and those above it while they are empty and only this program's."""
     if os.path.lexists(target):
         os.remove(target)
-    own = [options.destdir + folder for folder in (options.docdir, f"{options.prefix}/share/fiolargu")]
     folder = os.path.dirname(target)
+    if target.endswith(".py"):
+        shutil.rmtree(os.path.join(folder, "__pycache__"), ignore_errors=True)
+    own = [options.docdir, f"{options.prefix}/share/fiolargu", f"{options.pythondir}/fiolargu"]
+    own = [options.destdir + folder for folder in own]
     while any(f"{folder}/".startswith(f"{top}/") for top in own) and os.path.isdir(folder) and not os.listdir(folder):
         os.rmdir(folder)
         folder = os.path.dirname(folder)
@@ -116,9 +131,11 @@ def parsed(words):
         parser.add_argument(f"--{name}", help=f"{what} (PREFIX/{below})")
     parser.add_argument("--destdir", default="", help="stands before all these folders")
     parser.add_argument("--programs", default=os.path.join(TOP, "bin"), help="where the programs are (bin/)")
+    parser.add_argument("--library", default=TOP, help="where the library's lib/ and include/ are (the top of the repository)")
     parser.add_argument("--strip", action="store_true", help="install the programs without their symbols")
     parser.add_argument("--uninstall", action="store_true", help="remove the files that would be installed")
     options = parser.parse_args(words)
+    options.prefix = os.path.normpath(options.prefix or "/")
     for name, (below, _) in FOLDERS.items():
         setattr(options, name, os.path.normpath(getattr(options, name) or os.path.join(options.prefix, below)))
     options.programs = os.path.abspath(options.programs)
@@ -127,6 +144,7 @@ def parsed(words):
 
 def main(words=None):
     options = parsed(words)
+    os.umask(0o022)
     for source, target in listed(options):
         target = options.destdir + target
         if options.uninstall:

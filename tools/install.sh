@@ -1,7 +1,9 @@
 #!/bin/sh
 # Installs an unpacked release below /usr/local, or the folder given: ./install.sh [PREFIX]
 # Processors of level x86-64-v3 get the programs of libexec/, which are faster there. All others get those of bin/.
-set -eu; from=$(dirname "$0") to=${1:-/usr/local} fast=libexec/x86-64-v3 put='tar -xf - --no-same-owner --no-overwrite-dir'
+# It needs GNU tar, which keeps folders and links to folders that are there. BusyBox's tar has no such options.
+set -eu; umask 022; from=$(dirname "$0") to=${1:-/usr/local} fast=libexec/x86-64-v3
+put='tar -xf - --no-same-owner --no-overwrite-dir --keep-directory-symlink'
 for flag in avx2 bmi1 bmi2 f16c fma abm movbe; do grep -qsw "$flag" /proc/cpuinfo || fast=; done
 mkdir -p "$to"; to=$(cd "$to" && pwd); (cd "$from"; tar -cf - $(ls -d bin include lib share 2> /dev/null)) | $put -C "$to"
 [ -z "$fast" ] || tar -C "$from/$fast" -cf - . | $put -C "$to/bin"

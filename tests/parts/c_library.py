@@ -1,14 +1,15 @@
-"""The C library in lib/: each function and status, random searches, refused allocations, threads, what the files show."""
+"""The C library: each function and status, random searches, refused allocations, threads, what the files show."""
 
 import os
 import re
 import subprocess
 import tempfile
 
+from support import clibrary
 from support.programs import TOP
 
 SOURCES = os.path.join(TOP, "clients", "c")
-LIBRARY = os.path.abspath(os.environ.get("LIBRARY", os.path.join(TOP, "lib")))
+LIBRARY = os.path.dirname(clibrary.LIBRARY or os.path.join(TOP, "lib", clibrary.NAME))
 ARCHIVE = os.path.join(LIBRARY, "libfiolargu.a")
 SHARED = "libfiolargu.so.0"
 # What stands in the way of these tests, if anything does.
@@ -46,17 +47,21 @@ def calls():
 
 
 def shared_objects():
-    """The same over the shared objects, each where the processor has its level."""
+    """The same over the shared objects, each where the processor has its level. Each is linked into a folder of its own, since the
+    loader prefers an object of a higher level below the folder that it is given."""
     with tempfile.TemporaryDirectory() as folder:
         program = os.path.join(folder, "shared")
         words = ["cc", *C99, f"-I{SOURCES}", "-o", program, os.path.join(SOURCES, "test_library.c"), f"-L{LIBRARY}", "-lfiolargu"]
         subprocess.run(words, check=True)
-        for level in shared_levels():
-            yield f"lists over {level or SHARED}", ran(program, 3, 300, LD_LIBRARY_PATH=os.path.join(LIBRARY, level)), (0, "0 faults\n", "")
+        for place, level in enumerate(shared_levels()):
+            alone = os.path.join(folder, str(place))
+            os.mkdir(alone)
+            os.symlink(os.path.join(LIBRARY, level, SHARED), os.path.join(alone, SHARED))
+            yield f"lists over {level or SHARED}", ran(program, 3, 300, LD_LIBRARY_PATH=alone), (0, "0 faults\n", "")
 
 
 def shared_levels():
-    """The folders below lib/ that have a shared object which this processor runs."""
+    """The folders that have a shared object which this processor runs, each below the archive's."""
     with open("/proc/cpuinfo", encoding="ascii") as file:
         has_v3 = {"avx2", "bmi1", "bmi2", "f16c", "fma", "abm", "movbe"} <= set(re.search(r"^flags.*", file.read(), re.M)[0].split())
     folders = ["", os.path.join("glibc-hwcaps", "x86-64-v3")]

@@ -1,10 +1,12 @@
 """make install and make uninstall, with stand-ins for the programs: which files, their rights, where units find `scand`."""
 
 import os
+import shutil
 import subprocess
+import sys
 import tempfile
 
-from support.programs import TOP
+from support.programs import TOP, lay_out
 
 PROGRAMS = ("litgrep", "litplan", "scand")
 # What needs no list: folders of the repository, and where their files go.
@@ -21,6 +23,11 @@ WHOLE = {
     "clients/rust/tests": "share/fiolargu/clients/rust/tests",
     "docs": "share/doc/fiolargu/docs",
 }
+# The files of the C library, as tools/library.py makes them.
+LIBRARY = (
+    "include/fiolargu.h", "lib/libfiolargu.a", "lib/libfiolargu.so", "lib/libfiolargu.so.0",
+    "lib/glibc-hwcaps/x86-64-v3/libfiolargu.so.0", "lib/pkgconfig/fiolargu.pc",
+)
 SCRIPTS = "share/fiolargu/deploy/parallel/part.sh", "share/fiolargu/deploy/rsyslog/tag_messages.py"
 CLIENTS = (
     "c/find.c", "c/scan.c", "c/scand.h", "python/scan_files.py", "python/scand_client.py", "python/pyproject.toml", "rust/Cargo.toml", "rust/build.rs",
@@ -70,7 +77,7 @@ def to_install():
 
 def without_libraries(files):
     """The files, except libraries."""
-    left_out = "include/", "lib/lib", "lib/pkgconfig/", "lib/glibc-hwcaps/", "share/fiolargu/clients/python/fiolargu/"
+    left_out = "include/", "lib/of-this-machine/", "share/fiolargu/clients/python/fiolargu/"
     return {name: mode for name, mode in files.items() if not name.startswith(left_out)}
 
 
@@ -87,15 +94,16 @@ def text_of(*path):
 
 
 def installing():
-    """make installs exactly these files, without symbols, and removes exactly these files."""
+    """make installs exactly these files, without symbols and for all users, and removes them with what Python compiled."""
     env = {name: value for name, value in os.environ.items() if not name.startswith("MAKE")}
     with tempfile.TemporaryDirectory() as folder:
         stand_ins(folder)
         below = os.path.join(folder, "a b", "usr")
-        make = ["make", "-s", "-C", TOP, f"BIN={folder}", "PREFIX=/usr", f"DESTDIR={folder}/a b"]
+        make = ["make", "-s", "-C", TOP, f"BIN={folder}", "PREFIX=/usr/", "LIBDIR=/usr/lib/of-this-machine", f"DESTDIR={folder}/a b"]
         for _ in range(2):
-            yield "make install", ran(*make, "install", env=env), (0, "", "")
+            yield "make install", ran(*make, "install", env=env, umask=0o077), (0, "", "")
             yield "what is installed", without_libraries(files_below(below)), to_install()
+        yield "rights of folders", {oct(os.stat(parent).st_mode & 0o777) for parent, _, _ in os.walk(below)}, {"0o755"}
         yield "symbols", [has_symbols(below, "bin", program) for program in PROGRAMS], [False] * 3
         yield "make install with symbols", ran(*make, "INSTALL_STRIP=", "install", env=env), (0, "", "")
         yield "kept symbols", [has_symbols(below, "bin", program) for program in PROGRAMS], [True] * 3
@@ -103,6 +111,7 @@ def installing():
             yield f"the folder in {name}", "ExecStart=/usr/bin/scand " in text_of(below, "lib/systemd/system", name), True
         with open(os.path.join(below, "bin", "other"), "w"):
             os.chmod(os.path.join(below, "bin", "other"), 0o600)
+        yield "compiling", ran(sys.executable, "-m", "compileall", "-q", f"{below}/share/fiolargu"), (0, "", "")
         yield "make uninstall", ran(*make, "uninstall", env=env), (0, "", "")
         yield "the remaining files", files_below(below), {"bin/other": "0o600"}
         folders = [name for name in ("fiolargu", "doc/fiolargu") if os.path.isdir(f"{below}/share/{name}")]
@@ -126,4 +135,21 @@ def moved():
         yield "the remaining files", files_below(f"{folder}/to"), {}
 
 
-TESTS = (installing, moved)
+def libraries():
+    """The library is installed where it was built, and removed though the tree was cleaned meanwhile."""
+    with tempfile.TemporaryDirectory() as folder:
+        stand_ins(folder)
+        for name in LIBRARY:
+            os.makedirs(os.path.join(folder, "built", os.path.dirname(name)), exist_ok=True)
+            lay_out(os.path.join(folder, "built"), {name: b""})
+        words = [sys.executable, os.path.join(TOP, "tools", "install.py"), "--prefix", f"{folder}/to"]
+        words += ["--programs", folder, "--library", f"{folder}/built", "--pythondir", f"{folder}/to/python"]
+        yield "installing", ran(*words), (0, "", "")
+        yield "missing files of the library", set(LIBRARY) - set(files_below(f"{folder}/to")), set()
+        shutil.rmtree(f"{folder}/built")
+        yield "removing", ran(*words, "--uninstall"), (0, "", "")
+        yield "the remaining files", files_below(f"{folder}/to"), {}
+        yield "the remaining folder of modules", os.listdir(f"{folder}/to/python"), []
+
+
+TESTS = (installing, moved, libraries)

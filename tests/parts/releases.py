@@ -7,13 +7,17 @@ import subprocess
 import sys
 import tempfile
 
-from support.programs import TOP
+from support import clibrary
+from support.programs import TOP, lay_out
 
 PROGRAMS = ("litgrep", "litplan", "scand")
 SOURCE = '#include <stdio.h>\nint main(void) { puts(LEVEL); return 0; }\n'
 DIST = os.path.join(TOP, "tools", "dist.py")
-# Whether the C library was built, and so is packed too.
-HAS_LIBRARY = os.path.exists(os.path.join(TOP, "lib", "libfiolargu.so.0"))
+# A stand-in for systemctl that prints its words.
+SYSTEMCTL = b"#!/bin/sh\necho \"$*\"\n"
+# The folder of lib/ and include/, and whether the C library was built there, and so is packed too.
+BUILT = os.path.dirname(os.path.dirname(clibrary.LIBRARY)) if clibrary.LIBRARY else TOP
+HAS_LIBRARY = os.path.exists(os.path.join(BUILT, "lib", clibrary.NAME))
 PACKAGES = [*(["libfiolargu-dev", "libfiolargu0"] if HAS_LIBRARY else []), "litgrep", "python3-fiolargu"]
 
 
@@ -69,7 +73,7 @@ def releases():
         words = [word for level in ("v2", "v3") for word in (f"--programs-{level}", stand_ins(f"{folder}/{level}", level))]
         with open(f"{folder}/gate", "w") as file:
             file.write("a crate\n12 passed, 0 failed (all)\n")
-        words += ["--gate", f"{folder}/gate"]
+        words += ["--gate", f"{folder}/gate", "--library", BUILT]
         (status, shown), one = packed(folder, "one", *words)
         yield "a release", (status, bool(re.search(r"need GLIBC_2\.\d+; Debian oldstable has 2\.\d+\n", shown))), (0, True)
         other, two = packed(folder, "two", *words, cwd="/", umask=0o077, env={**os.environ, "TZ": "Asia/Tokyo", "LC_ALL": "C"})
@@ -97,6 +101,8 @@ def unpacked(folder, path):
         yield "the flags of install.sh", re.search("for flag in (.*);", file.read())[1].split("; do")[0], v3_flags()
     os.makedirs(f"{folder}/to/here/bin")
     os.chmod(f"{folder}/to/here/bin", 0o2770)
+    os.mkdir(f"{folder}/elsewhere")
+    os.symlink(f"{folder}/elsewhere", f"{folder}/to/here/share")
     for _ in range(2):
         yield "install.sh", ran(f"a b/{top}/install.sh", "to/here", cwd=folder, env={"PATH": os.environ["PATH"]}), (0, "")
     for program in PROGRAMS:
@@ -107,10 +113,13 @@ def unpacked(folder, path):
         yield "the program of a unit", re.search("^ExecStart=(.*) --stdio", unit.read(), re.M)[1], f"{folder}/to/here/bin/scand"
     with open(f"{folder}/a b/{top}/install.sh") as file, open(f"{folder}/a b/{top}/older.sh", "w") as older:
         older.write(file.read().replace("avx2", "no_such_flag"))
-    yield "install.sh on an older processor", ran("sh", f"{folder}/a b/{top}/older.sh", f"{folder}/older"), (0, "")
+    yield "install.sh on an older processor", ran("sh", f"{folder}/a b/{top}/older.sh", f"{folder}/older", umask=0o077), (0, "")
+    yield "rights of a new folder", oct(os.stat(f"{folder}/older").st_mode & 0o777), "0o755"
     yield "a program for it", ran(f"{folder}/older/bin/scand"), (0, "v2\n")
     yield "a manual", os.path.isfile(f"{folder}/to/here/share/man/man1/litgrep.1"), True
     yield "rights of a folder that was there", oct(os.stat(f"{folder}/to/here/bin").st_mode & 0o7777), "0o2770"
+    yield "a link to a folder that was there", os.path.islink(f"{folder}/to/here/share"), True
+    yield "a file by the link", os.path.isfile(f"{folder}/elsewhere/man/man1/litgrep.1"), True
     folders = ["bin", *(["include"] if HAS_LIBRARY else []), "lib", "share"]
     yield "folders", sorted(os.listdir(f"{folder}/to/here")), folders
     env = {"PATH": os.environ["PATH"], "MANPATH": f"{folder}/to/here/share/man"}
@@ -137,6 +146,7 @@ def debian(folder, into, files):
     yield "a program", ran(f"{folder}/root/usr/bin/litplan"), (0, "v2\n")
     with open(f"{folder}/root/usr/lib/systemd/system/scand@.service") as unit:
         yield "the program of a unit", re.search("^ExecStart=(.*) --stdio", unit.read(), re.M)[1], "/usr/bin/scand"
+    yield from removed(folder, paths["litgrep"])
     if HAS_LIBRARY:
         libraries = f"{folder}/root/usr/lib/x86_64-linux-gnu"
         yield "a header", os.path.isfile(f"{folder}/root/usr/include/fiolargu.h"), True
@@ -144,6 +154,34 @@ def debian(folder, into, files):
         env = {**os.environ, "PYTHONPATH": f"{folder}/root/usr/lib/python3/dist-packages", "LD_LIBRARY_PATH": libraries}
         words = "import fiolargu; print([*fiolargu.Plan([b'cat']).scan(b'concat')])"
         yield "the module", ran(sys.executable, "-c", words, env=env), (0, "[Hit(literal=0, start=3, end=6)]\n")
+
+
+def removed(folder, path):
+    """Before the package is removed, the server is disabled, and stopped where systemd runs; nothing happens at an upgrade."""
+    yield "the scripts of litgrep", ran("dpkg-deb", "-e", path, f"{folder}/control"), (0, "")
+    with open(f"{folder}/control/prerm") as file:
+        script = re.sub("(?<= )/(usr|run)/", rf"{folder}/root/\1/", file.read())
+    lay_out(folder, {"on_path": None, "on_path/systemctl": SYSTEMCTL})
+    os.chmod(f"{folder}/on_path/systemctl", 0o755)
+    env = {"PATH": f"{folder}/on_path{os.pathsep}{os.environ['PATH']}"}
+    disabled = "--quiet disable scand.socket scand-port@.service\n"
+    yield "at an upgrade", ran("sh", "-c", script, "prerm", "upgrade", "1", env=env), (0, "")
+    yield "without systemd", ran("sh", "-c", script, "prerm", "remove", env=env), (0, disabled)
+    os.makedirs(f"{folder}/root/run/systemd/system")
+    stopped = "stop scand.socket scand@*.service scand-port@*.service\n"
+    yield "with systemd", ran("sh", "-c", script, "prerm", "remove", env=env), (0, disabled + stopped)
+
+
+def needs():
+    """A release needs of glibc what the library needs, if that is more than the programs need."""
+    with tempfile.TemporaryDirectory() as folder:
+        v2 = stand_ins(f"{folder}/v2", "v2")
+        lay_out(folder, {"library": None, "library/lib": None})
+        words = ["cc", "-shared", "-o", f"{folder}/library/lib/{clibrary.NAME}", "-xc", "-"]
+        subprocess.run(words, input="unsigned arc4random(void); unsigned any(void) { return arc4random(); }\n", text=True, check=True)
+        words = ["--programs-v2", v2, "--programs-v3", v2, "--library", f"{folder}/library"]
+        (status, shown), _ = packed(folder, "into", *words)
+        yield "a library with newer symbols", (status, "need GLIBC_2.36" in shown), (0, True)
 
 
 def refusals():
@@ -179,4 +217,4 @@ def licences():
     yield "crates without a licence", [row[1] for row in rows if "MIT" not in row[3]], []
 
 
-TESTS = (releases, refusals, licences)
+TESTS = (releases, needs, refusals, licences)

@@ -1,4 +1,4 @@
-"""The C library under test: the file that FIOLARGU_LIBRARY names, the one of lib/, or the one beside installed programs."""
+"""The C library under test: the file that FIOLARGU_LIBRARY names, the one beside the tested programs, or the one of lib/."""
 
 import os
 
@@ -10,7 +10,7 @@ NAME = "libfiolargu.so.0"
 def found():
     """The library's file, or None."""
     given = os.environ.get("FIOLARGU_LIBRARY")
-    paths = [given] if given else [os.path.join(folder, "lib", NAME) for folder in (TOP, os.path.dirname(BIN))]
+    paths = [given] if given else [os.path.join(folder, "lib", NAME) for folder in (os.path.dirname(BIN), TOP)]
     return next((os.path.abspath(path) for path in paths if os.path.exists(path)), None)
 
 
