@@ -61,10 +61,10 @@ class Edit:
             path = os.path.join(top, "crates", name)
             with open(path, encoding="utf-8") as file:
                 text = file.read()
-            if text.count(old + "\n") != 1:
+            if text.count(old) != 1:
                 sys.exit("%s: %r does not stand once in %s" % (self.name, old, name))
             with open(path, "w", encoding="utf-8") as file:
-                file.write(text.replace(old + "\n", new + "\n"))
+                file.write(text.replace(old, new))
 
 
 def edits(folder):

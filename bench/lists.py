@@ -6,7 +6,7 @@
 The literals are made of one to three of a text's own words or syllables. --seed draws other literals and other texts,
 on which no constant of the search was chosen; --lists says how many lists are drawn for each row. --rounds goes over all
 rows so often, one round after the other, so that what slows a shared machine for some minutes meets no row in each. The runs
-are those of programs.py, without busybox, which tries each literal in turn. Output and status are compared with GNU grep's.
+are those of programs.py, without busybox, which tries each literal in turn, and are compared with GNU grep's as there.
 Prints the least processor time of each program over the turns in milliseconds, since whatever else a shared machine does
 only adds to it, and how far litgrep is ahead of the best other one; with --write the tables go to bench/LISTS.md, and a plot
 to bench/lists.svg.
@@ -25,8 +25,8 @@ import tempfile
 
 from held import with_reasons
 from plot import plot_of_lists
-from programs import (COMMON, HERE, MB, UNITS, Row, differs, english_block, fill, litgreps, log_block, machine, measure, peers,
-                      run, word, write_lines)
+from programs import (COMMON, HERE, MB, UNITS, Row, compared, english_block, fill, litgreps, log_block, machine, measure, peers,
+                      report, run, word, write_lines)
 
 COUNTS = (5, 10, 30, 100, 300, 1000)
 FEWER = (10, 100, 1000)
@@ -484,7 +484,7 @@ def main():
     options = options_given()
     ours, size = litgreps(options.litgrep), options.size * MB
     programs = ours + [peer for peer in peers() if peer[0] != "busybox"]
-    results, wrong = {}, []
+    results, left_out = {}, []
     with tempfile.TemporaryDirectory(prefix="lists-bench-") as folder:
         texts = make_texts(folder, size, options.seed)
         for _ in range(options.rounds):
@@ -492,9 +492,8 @@ def main():
             for place, search in enumerate(Searches(folder, texts, options.seed, options.lists).rows(size)):
                 if options.only not in search.name:
                     continue
-                found = measure(search, programs, options.turns)
-                gnu = found["GNU grep"][0]
-                wrong += ["%s: %s" % (search.name, name) for name, _ in ours if not found[name] or differs(search, found[name][0], gnu)]
+                found, others = compared(measure(search, programs, options.turns))
+                left_out += [(search.name, name) for name in others]
                 if all(found[name] for name, _ in ours):
                     result = results.setdefault(place, Result(search, [name for name, _ in ours]))
                     result.add(search, found, options.turns)
@@ -506,9 +505,7 @@ def main():
             out.write(with_reasons(tables))
         with open(os.path.join(HERE, "lists.svg"), "w") as out:
             out.write(plot_of_lists())
-    for line in wrong:
-        print("other output or status than GNU grep: " + line)
-    return 1 if wrong else 0
+    return report(left_out)
 
 
 if __name__ == "__main__":

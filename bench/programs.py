@@ -6,8 +6,9 @@
 Each row is one search. Each program runs it in turn, N times over, its output read through a pipe;
 the figures are medians: processor time (user and system) and wall time of the process. The peak memory of litgrep is that of one
 more run.
-Output bytes and status are compared with GNU grep's in the same run. With --write the table goes to
-bench/PROGRAMS.md and the plot to bench/programs.svg. The texts are made anew by a seeded generator.
+Output bytes and status of each run are compared with GNU grep's. A program with another answer is left out of the row, with a
+message; where that is litgrep, the row is left out and the status is 1. With --write the table goes to bench/PROGRAMS.md and the
+plot to bench/programs.svg. The texts are made anew by a seeded generator.
 """
 import argparse
 import hashlib
@@ -187,9 +188,10 @@ def rows(folder):
 # ---------------------------------------------------------------- programs
 
 def peers():
+    """The other greps that are here, each with the words that start it. With --include-zero ripgrep prints a count of 0 too."""
     known = [
         ("GNU grep", ["grep", "-F", "-a"], "grep"),
-        ("ripgrep", ["rg", "-F", "-a", "--no-config", "--no-heading", "--color=never", "--no-ignore", "-j1"], "rg"),
+        ("ripgrep", ["rg", "-F", "-a", "--no-config", "--no-heading", "--color=never", "--no-ignore", "--include-zero", "-j1"], "rg"),
         ("ugrep", ["ugrep", "-F", "-a", "--color=never", "-J1"], "ugrep"),
         ("busybox", ["busybox", "grep", "-F"], "busybox"),
     ]
@@ -241,6 +243,8 @@ def command(program, row):
     files = row.files
     options = list(row.options)
     if name == "ripgrep":
+        if "-i" in options:     # A to Z alone, as in the C locale. Without -i the flag only refuses literals beyond ASCII.
+            options.append("--no-unicode")
         if len(files) > 1 and "-l" not in options:
             options.append("-H")
         if not files:
@@ -250,14 +254,12 @@ def command(program, row):
 
 def measure(row, programs, turns):
     """The runs of each program, in turn, so that what the machine does meanwhile meets all alike, and the peak memory of each
-    litgrep by a run of its own. A program that refuses a row, as one does that takes patterns for UTF-8, has none."""
+    litgrep by a run of its own. A program that the row does not suit has none."""
     found = {program[0]: [] for program in programs}
     for _ in range(turns):
         for program in programs:
             if row.suits(program[0]):
-                done = run(command(program, row), row.stdin)
-                if done.status < 2:
-                    found[program[0]].append(done)
+                found[program[0]].append(run(command(program, row), row.stdin))
     for program in programs:
         if found[program[0]] and program[0].startswith("litgrep"):
             memory = peak(command(program, row), row.stdin)
@@ -266,8 +268,25 @@ def measure(row, programs, turns):
     return found
 
 
-def differs(row, ours, gnu):
-    return (ours.status, ours.size, ours.digest) != (gnu.status, gnu.size, gnu.digest)
+def answers(runs):
+    """The status and output of some runs, each different answer once."""
+    return {(done.status, done.size, done.digest) for done in runs}
+
+
+def compared(found):
+    """The runs of the programs that answer as GNU grep in all runs, and the names of the others: they answer otherwise, crash, or
+    refuse the row, as one does that takes patterns for UTF-8. If GNU grep itself fails or varies, no program is right."""
+    right = answers(found["GNU grep"])
+    is_known = len(right) == 1 and min(right)[0] in (0, 1)
+    others = [name for name, runs in found.items() if runs and not (is_known and answers(runs) == right)]
+    return {name: [] if name in others else runs for name, runs in found.items()}, others
+
+
+def report(left_out):
+    """Prints the rows and programs that were left out, and returns the status: 1 if litgrep is among them."""
+    for row, name in left_out:
+        print("other output or status than GNU grep: %s: %s" % (row, name))
+    return 1 if any(name.startswith("litgrep") for _, name in left_out) else 0
 
 
 def median(runs, figure):
@@ -326,17 +345,16 @@ def main():
     options = parser.parse_args()
     programs = litgreps(options.litgrep) + peers()
     names = [name for name, _ in programs]
-    results, wrong = [], []
+    results, left_out = [], []
     with tempfile.TemporaryDirectory(prefix="litgrep-bench-") as folder:
         make_texts(folder, options.size * MB)
         for row in rows(folder):
             if options.only not in row.name:
                 continue
-            found = measure(row, programs, options.turns)
-            results.append((row, found))
-            for name in names:
-                if name.startswith("litgrep") and differs(row, found[name][0], found["GNU grep"][0]):
-                    wrong.append("%s: %s" % (row.name, name))
+            found, others = compared(measure(row, programs, options.turns))
+            left_out += [(row.name, name) for name in others]
+            if all(found[name] for name in names if name.startswith("litgrep")):
+                results.append((row, found))
             print("%-32s %s" % (row.name, "  ".join(
                 "%s %.0f" % (name, median(found[name], "cpu") * 1000) for name in names if found[name])), flush=True)
     table = as_table(results, names, machine(options.size))
@@ -346,9 +364,7 @@ def main():
             out.write(with_reasons("# litgrep beside other greps\n\n" + table))
         with open(os.path.join(HERE, "programs.svg"), "w") as out:
             out.write(as_plot(results, names))
-    for line in wrong:
-        print("other output or status than GNU grep: " + line)
-    return 1 if wrong else 0
+    return report(left_out)
 
 
 if __name__ == "__main__":

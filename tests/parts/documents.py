@@ -3,7 +3,6 @@
 import functools
 import os
 import re
-import sys
 import urllib.parse
 
 from support.programs import TOP
@@ -123,14 +122,4 @@ def lengths():
     yield f"README.md has {count} words, of {README_WORDS} at most", count <= README_WORDS, True
 
 
-def sums():
-    """bench/README.md sums up its tables as they are."""
-    sys.path.insert(0, os.path.join(TOP, "bench"))
-    import summary
-
-    rows = read("bench/README.md").split("\n")
-    for line in summary.lines()[0]:
-        yield f"bench/README.md: {line}", line in rows, True
-
-
-TESTS = (rules, links, lengths, sums)
+TESTS = (rules, links, lengths)

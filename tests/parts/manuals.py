@@ -80,25 +80,37 @@ def in_bash(program, *words):
     return shown.split()
 
 
-def in_zsh(program, command):
-    """The options in the completion for zsh. bash runs its script here."""
+def in_zsh(program, command, given=None):
+    """The options in the completion for zsh, without those that it drops beside one that is given. bash runs its script here."""
     script = '_arguments() { printf "%s\n" "$@"; }; source "$0"'
     if command:
         script += f" > /dev/null; _{program}_{command[0]}"
     shown = ran("bash", "-c", script, os.path.join(TOP, "completions", "zsh", f"_{program}"))[1]
-    return sorted(re.findall(r"^(?:\*|\([^)]*\))?(--?\w[\w-]*)[+=]?\[", shown, re.M))
+    declared = {name: dropped.split() for dropped, name in re.findall(r"^(?:\(([^)]*)\))?\*?(--?\w[\w-]*)[+=]?\[", shown, re.M)}
+    return sorted(set(declared).difference(declared[given] if given else ()))
 
 
-def in_fish(program, command):
-    """The options that the completion for fish declares for a program, or for its command."""
+def in_fish(program, command, given=None):
+    """The options that the completion for fish declares for a program, or for its command, without those that it drops beside one
+    that is given."""
     names = []
     for line in text_of("completions", "fish", f"{program}.fish").splitlines():
         words = shlex.split(line, comments=True)
-        given = {word: value for word, value in zip(words, words[1:]) if re.fullmatch("-[nsl]", word)}
-        wanted = given.get("-n", "__fish_use_subcommand").split()
+        found = {word: value for word, value in zip(words, words[1:]) if re.fullmatch("-[nsl]", word)}
+        condition, _, others = found.get("-n", "__fish_use_subcommand").partition("; and not __litplan_given ")
+        wanted = condition.split()
+        if given in others.split():
+            continue
         if (not command and wanted == ["__fish_use_subcommand"]) or (command and command[0] in wanted[1:]):
-            names += [f"-{given[word]}" if word == "-s" else f"--{given[word]}" for word in given if word != "-n"]
+            names += [f"-{found[word]}" if word == "-s" else f"--{found[word]}" for word in found if word != "-n"]
     return sorted(names)
+
+
+def by_fish(program, *words):
+    """The options that fish offers for the last word."""
+    file = os.path.join(TOP, "completions", "fish", f"{program}.fish")
+    shown = ran("fish", "-c", f"source {file}; complete -C '{' '.join([program, *words])}'")[1]
+    return sorted(re.findall("^-\\S+", shown, re.M))
 
 
 def options():
@@ -112,9 +124,7 @@ def options():
             yield f"{name} in zsh", in_zsh(program, command), names_in(helped)
             yield f"{name} in fish", in_fish(program, command), names_in(helped)
             if shutil.which("fish"):
-                file = os.path.join(TOP, "completions", "fish", f"{program}.fish")
-                shown = ran("fish", "-c", f"source {file}; complete -C '{name} -'")[1]
-                yield f"{name} by fish", sorted(re.findall("^-\\S+", shown, re.M)), names_in(helped)
+                yield f"{name} by fish", by_fish(program, *command, "-"), names_in(helped)
 
 
 def commands():
@@ -130,6 +140,30 @@ def commands():
     yield "commands to be helped with, in zsh", re.findall(r"'1:command:\(([^()]*)\)'", zsh), [" ".join(listed[:-1])]
     yield "commands in fish", re.findall(r"use_subcommand -a (\w+)", fish), listed
     yield "commands to be helped with, in fish", re.findall(r"from help' -f -a '(.*)'", fish), [" ".join(listed[:-1])]
+
+
+def given_by(head, name):
+    """The words that give an option with this head by one of its names. Where it takes a value, `8` is one."""
+    return [name, "8"] if head.split()[-1].isupper() else [name]
+
+
+def conflicts():
+    """Completions offer no option that litplan refuses beside one that is given, and offer all others."""
+    for command in commands_of_help("litplan")[:-1]:
+        heads = [head for head in heads_of_help("litplan", (command,)) if "--help" not in head]
+        for head in heads:
+            offered = {"-h", "--help"}
+            for other in set(heads) - {head}:
+                both = [*given_by(head, names_in([head])[0]), *given_by(other, names_in([other])[0])]
+                if "cannot be used with" not in ran(program_at("litplan"), command, *both, stdin=subprocess.DEVNULL)[2]:
+                    offered.update(names_in([other]))
+            for name in names_in([head]):
+                words, own = [command, *given_by(head, name), "-"], set(names_in([head]))
+                yield f"litplan {words} in bash", set(in_bash("litplan", *words)) - own, offered
+                yield f"litplan {words} in zsh", set(in_zsh("litplan", (command,), name)) - own, offered
+                yield f"litplan {words} in fish", set(in_fish("litplan", (command,), name)) - own, offered
+                if shutil.which("fish"):
+                    yield f"litplan {words} by fish", set(by_fish("litplan", *words)) - own, offered
 
 
 def words_in_bash():
@@ -149,10 +183,12 @@ def words_in_bash():
         (["litplan", "plan", ""], []),
         (["litplan", "check", "--i"], ["--ignore-case"]),
         (["litplan", "scan", "--", "-"], []),
+        (["litplan", "scan", "--workers", "2", "--w"], []),
         (["litplan", "scan", "--workers", ""], workers),
         (["litplan", "scan", "--workers", "="], workers),
         (["litplan", "scan", "--workers", "=", "1"], [number for number in workers if number.startswith("1")]),
         (["scand", "--st"], ["--stdio"]),
+        (["scand", "--port", "1", "--po"], []),
         (["scand", "--port", ""], []),
         (["scand", "--plans", "-"], []),
         (["scand", "--plans", "=", "-"], []),
@@ -221,4 +257,4 @@ def surprises():
         yield f"statuses of {program}", re.findall(r"^\.TP\n\.B (\d+)", statuses, re.M), ["0", "1", "2", "127"]
 
 
-TESTS = (options, commands, words_in_bash, pages, surprises, examples, versions)
+TESTS = (options, commands, conflicts, words_in_bash, pages, surprises, examples, versions)

@@ -99,6 +99,24 @@ def chosen_with_plans():
             yield "the end with a plan", ended(program), (0, lines(["clean"]), b"")
 
 
+def is_refused(address):
+    """Whether a connection to this address is refused."""
+    try:
+        socket.create_connection(address, SECONDS).close()
+    except ConnectionRefusedError:
+        return True
+    return False
+
+
+def loopback():
+    """It listens on 127.0.0.1 alone: another address of this machine is refused, between two connections that are served."""
+    with Server(3) as server, server.client():
+        is_alone = is_refused(("127.0.0.2", server.port))
+        with server.client() as later:
+            served = later.asks(PUBLISH_CAT)[0][0][4]
+        yield "another address is refused while it listens", (is_alone, served), (True, PUBLISHED)
+
+
 class Shared:
     """What the threads of clients share: the numbers of their plans, and their checks."""
 
@@ -374,4 +392,7 @@ def threads():
         yield "each connection's word", (len(words), [word for word, some in zip(words, allowed) if word not in some]), (MOST, [])
 
 
-TESTS = (usages, chosen, chosen_with_plans, lone, at_once, many_plans, refused_publishes, reopened, idle, hostile, crowd, late, descriptors, threads)
+TESTS = (
+    usages, chosen, chosen_with_plans, loopback, lone, at_once, many_plans, refused_publishes, reopened, idle, hostile, crowd, late,
+    descriptors, threads,
+)

@@ -214,7 +214,8 @@ def waits():
         with Talk() as talk:
             for place, sent in enumerate(frames):
                 for at in range(0, len(sent), size):
-                    yield f"frame {place}, no reply before its end", talk.hears(1, 0), b""
+                    seconds = 0.02 if at + size >= len(sent) else 0  # a reply takes some time
+                    yield f"frame {place}, no reply before its end", talk.hears(1, seconds), b""
                     talk.says(sent[at : at + size])
                 want = replied[place + 1][len(replied[place]) :]
                 yield f"frame {place} in pieces of {size}, replied at once", talk.hears(len(want)), want

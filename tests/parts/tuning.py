@@ -15,8 +15,11 @@ SHAPES = {
         "names.rt": {"STANDARD_NAME"},
         "searcher.rt": {"LEAST_READ_SIZE", "MOST_HELD", "NUMBER_SIZE", "READ_SIZE", "UNUSED"},
     },
+    "lane_filter": {"candidates.rt": {"MOST_COPIED"}, "pair.rt": {"CHOSEN_FROM"}},
     "line_pick": {"whole_lines.rt": {"LENGTHS", "SIZE"}},
+    "list_index": {"suffixes/checks.rt": {"CHECK_BITS", "LEAST_CHECKED"}},
     "lit_plan": {},
+    "nib_mask": {},
     "par_scan": {"parts.rt": {"MAX_WORKERS"}},
     "scan_core": {"bounded_vec.rt": {"ROOM"}, "limits.rt": {"MAX_PLANS", "MAX_STREAMS"}},
     "shift_search": {
@@ -27,6 +30,11 @@ SHAPES = {
         "shift_or.rt": {"UNPROBED"},
     },
     "prefilter_search": {},
+    "text_automaton": {
+        "reading.rt": {"BLOCK", "LANES", "ROOM"},
+        "reporting.rt": {"STATES"},
+        "tables.rt": {"CLASSES", "MOST_OUTPUTS", "MOST_STATES", "NONE"},
+    },
     "text_ends": {},
     "text_lines": {"counting.rt": {"LANES", "STEPS", "STRETCH", "WIDE"}},
     "text_search": {},
@@ -60,12 +68,21 @@ def constants_of(crate, name):
         return {found[2]: found[1] for found in CONSTANT.finditer(file.read())}
 
 
+def sources_of(crate):
+    """The source files of a crate, without tests and tuning.rt."""
+    top = os.path.join(CRATES, crate, "src")
+    for folder, below, names in os.walk(top):
+        below[:] = sorted(set(below) - {"tests"})
+        for name in sorted(names):
+            if name.endswith(".rt") and name not in ("tuning.rt", "tests.rt"):
+                yield os.path.relpath(os.path.join(folder, name), top)
+
+
 def places():
     """No other file has a constant but those of shape."""
     for crate, shapes in SHAPES.items():
-        for name in sorted(os.listdir(os.path.join(CRATES, crate, "src"))):
-            if name.endswith(".rt") and name not in ("tuning.rt", "tests.rt"):
-                yield f"constants of {crate}/{name}", set(constants_of(crate, name)), shapes.get(name, set())
+        for name in sources_of(crate):
+            yield f"constants of {crate}/{name}", set(constants_of(crate, name)), shapes.get(name, set())
 
 
 def evidence():

@@ -1,5 +1,7 @@
 """The usage that `litgrep` and `litplan` print where words are wrong, and for `--help`, and advice on options of GNU grep."""
 
+import re
+
 from support.programs import LITGREP, LITPLAN, run
 
 
@@ -52,7 +54,7 @@ def advice():
         yield f"usage behind the advice on {word}", text if usage not in text else usage, usage
         yield f"no other tip on {word}", text.count("tip:"), 1
     for word in "-a", "-w", "-o", "-r", "-E", "-A", "-B", "-C", "-m 5", "-h", "-H", "-L", "-z", "--color", "--line-buffered", "--include":
-        yield f"{word} in the help", word in text_of_help, True
+        yield f"{word} in the help", bool(re.search(rf"^  for .*(?<!\S){word}(?=,| )", text_of_help, re.M)), True
     yield "an option of no grep", run(["-Q"])[2][:41], b"error: unexpected argument '-Q' found\n\n  "
     yield "an option that is misspelled", b"tip: a similar argument exists: '--count'" in run(["--cuont"])[2], True
     yield "the letters as a pattern", run(["--", "-w"], b"a-w\n"), (0, b"a-w\n", b"")
