@@ -197,7 +197,8 @@ def planned(words, names, output, stdin=b"", status=0, messages=b"", **more):
 
 
 def packed(words, name, literals, is_folded, stdin=b"", buckets=8):
-    """A run of `litplan pack`. It reads one file and makes another, which is whole only where the run succeeds."""
+    """A run of `litplan pack`. It reads one file and makes another, which is whole only where the run succeeds, and is not
+    made where memory runs out."""
     text = b"".join(plain_plan_file.file_fields([(literals, is_folded, plain_plan.plan_of(literals, buckets))]))
     like = planned(["pack", *words, name, "made"], [name], b"", stdin, made=("made",))
 
@@ -205,14 +206,14 @@ def packed(words, name, literals, is_folded, stdin=b"", buckets=8):
         return like.answer(faults)._replace(made=(None if faults else text,))
 
     def is_starved(whole, got):
-        return like.is_starved(whole, got) and got.made != whole.made
+        return like.is_starved(whole, got) and got.made == (None,)
 
     return like._replace(answer=answer, is_starved=is_starved, is_unwritten=stops_with(b"litplan: made: cannot be used\n"))
 
 
 def migrated(name, lists, version):
-    """A run of `litplan migrate`. It reads a plan file with the plans of some lists and makes another. Lines follow once that
-    is whole."""
+    """A run of `litplan migrate`. It reads a plan file with the plans of some lists and makes another, unless memory runs
+    out. Lines follow once that is whole."""
     old = [(literals, is_folded, plain_plan.plan_of(literals)) for literals, is_folded in lists]
     new = [(literals, is_folded, plain_plan.plan_of(literals, 16)) for literals, is_folded in lists]
     FILES[name] = b"".join(plain_plan_file.file_fields(old, version))
@@ -225,7 +226,7 @@ def migrated(name, lists, version):
         return like.answer(faults)._replace(made=(None if faults else text,))
 
     def is_starved(whole, got):
-        return like.is_starved(whole, got) and got.output == b"" and got.made != whole.made
+        return like.is_starved(whole, got) and got.output == b"" and got.made == (None,)
 
     def is_unwritten(whole, got):
         is_made = got.made == whole.made

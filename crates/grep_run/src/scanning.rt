@@ -15,7 +15,7 @@ use crate::status::Stop;
 use byte_io::{ByteIn, ByteOut, Failed, MAX_TURNS};
 use line_pick::{Fault, LineRule, Next, Picker};
 use std::alloc::AllocError;
-use text_search::{EndFinder, LEAST_SAMPLE};
+use text_search::EndFinder;
 
 /// A finder that tunes itself to the inputs of a request, if the request has enough literals to gain by it.
 fn finder_for(request: &Request<'_>) -> Result<Option<EndFinder>, AllocError>
@@ -107,7 +107,7 @@ fn plain_picker_for<'a>(request: &Request<'a>) -> Picker<'a>
 
 /// Reads the lines of an input into the block, as far as they are wanted. It writes the lines of a piece before it
 /// reads more, since the next read may wait. At the end the block holds at most the text of the last line. In a long
-/// run, or after the first piece, the search tunes itself to pieces of `LEAST_SAMPLE` bytes or more.
+/// run, or after the first piece, the search tunes itself.
 pub fn read_lines<'a, I: ByteIn, W: ByteOut>(
     request: &Request<'a>,
     is_long_run: bool,
@@ -131,7 +131,7 @@ pub fn read_lines<'a, I: ByteIn, W: ByteOut>(
             Err(Failed) => return Ok(End::Fault),
             Ok(0) => return end_lines(picker, block),
             Ok(count) => {
-                let is_long = (is_long_run || turn > 0) && count >= LEAST_SAMPLE;
+                let is_long = is_long_run || turn > 0;
                 if let Some(end) = feed(request, is_long, picker, &piece[..count], block, out)? {
                     return Ok(end);
                 }

@@ -51,7 +51,9 @@ fn advice_on(option: &str) -> Option<&'static str> {
         | "--include"
         | "--exclude"
         | "--exclude-dir"
-        | "--exclude-from" => { "Use find: find . -name '*.log' -exec litgrep cat /dev/null {} +" }
+        | "--exclude-from" => {
+            "Use find: find . -type f -name '*.log' -exec litgrep cat /dev/null {} +"
+        }
         "-z" | "--null-data" =>
             "Use tr: tr '\\n\\0' '\\0\\n' < f | litgrep cat | tr '\\n\\0' '\\0\\n'",
         "-o" | "--only-matching" | "-b" | "--byte-offset" => {

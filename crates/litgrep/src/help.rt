@@ -52,7 +52,7 @@ POSIX does not have the other options of GNU grep. Use in their place:
   for -h, --no-filename         a run for each file
   for -L                        -q on each file, and its status
   for -m 5                      litgrep cat f | head -n 5
-  for -r, --include             find . -exec litgrep cat /dev/null {} +
+  for -r, --include             find . -type f -exec litgrep cat /dev/null {} +
   for -z                        tr, before and after litgrep
   for -o, -b                    litplan scan
   for -w, --color               GNU grep on the lines that litgrep selects

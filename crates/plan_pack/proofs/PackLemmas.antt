@@ -1,5 +1,5 @@
 -- A plan file that is made: from the plans to the file of them.
-use Rattle.std.proofs.Common.{◌≡◌, ℕ, true, cond, List, [], ◌∷◌, ◌++◌, IfErr, MatchOption, Option, None, Some, Result, Ok, Err, inl, inr, ◌-◌, ◌<◌, ◌≤◌, arith, drop, get_or, length, take, refl, sym, ap, subst, ◌∙◌, append_assoc, append-nil, take_all}
+use Rattle.std.proofs.Common.{◌≡◌, ℕ, true, cond, List, [], ◌∷◌, ◌++◌, IfErr, MatchOption, Option, None, Some, Ok, Err, inl, inr, ◌-◌, ◌<◌, ◌≤◌, arith, drop, get_or, length, take, refl, sym, ap, subst, ◌∙◌, append_assoc, append-nil, take_all}
 use Rattle.std.specs.Prelude.{String, map, string_bytes}
 use Rattle.std.specs.Option.{option_or}
 use Rattle.byte_io.specs.Devices.{IfKnown}
@@ -7,18 +7,18 @@ use Rattle.byte_io.specs.Sources.{AreShort, Ask, Content, Created, Named, Source
 use Rattle.byte_io.proofs.OpenerLemmas.{short-after}
 use Rattle.byte_io.proofs.KnownLemmas.{IfKnown-none, IfKnown-then, IfKnown-weaker}
 use Rattle.lit_plan.specs.Plans.{Plan}
-use Rattle.plan_pack.specs.Asking.{Asks, asks_for_plans, pack_asks, reads_file}
+use Rattle.plan_pack.specs.Asking.{AsksAfterReads, asks_for_plans, pack_asks, pack_reads, reads_file}
 use Rattle.lit_base.specs.declared.profile.Profile.{Profile}
 use Rattle.plan_pack.specs.Lists.{IsPlanOf, list_in, plan_message, plan_messages}
 use Rattle.plan_pack.specs.Messages.{unusable}
-use Rattle.plan_pack.specs.Packing.{Made, MakesFile, MakesPack, NamesPack, Own, PacksFiles, StaysEmpty, answer_of}
+use Rattle.plan_pack.specs.Packing.{Made, MakesFile, MakesPack, NamesPack, Own, PacksFiles, answer_of}
 use Rattle.plan_pack.specs.PlanFiles.{HoldsPrefix, HoldsPlans}
 use Rattle.plan_pack.specs.Stops.{Explains, is_refusal}
 use Rattle.plan_pack.specs.Taken.{NamesStop, TakesPlan}
 use Rattle.plan_pack.specs.declared.notation.Reading.{Reading}
 use Rattle.plan_pack.specs.declared.stop.Stop.{Stop}
 use Rattle.plan_pack.specs.declared.stop.Stop.TheVariants.{OutOfMemory, Refused, WriteFault}
-use Rattle.plan_pack.proofs.AskLemmas.{asks-all, asks-more, asks-stopped, same-asks}
+use Rattle.plan_pack.proofs.AskLemmas.{asks-all, asks-more, asks-stopped, none-asked, same-asks}
 
 -- no ask changes under which names files can be made
 pub same-creatable : (ask : Ask) (s : Sources) → (after ask s).creatable ≡ s.creatable
@@ -33,22 +33,32 @@ first-explains (Refused refusal) (Some text) later e = e
 first-explains WriteFault reason later e = e
 first-explains OutOfMemory reason later e = tt
 
+-- the plan file of these plans and then of those of the files is asked for and made, once the files are read
+abbrev pub AsksAndMakes : {O : Type 0} → (O → Option (List ℕ)) → Reading → Profile → List Plan → List (List ℕ) → List ℕ → Sources → Sources → Made O → Type 0
+AsksAndMakes written reading profile before names output s left r =
+    AsksAfterReads (answer_of r) (asks_for_plans reading names (Created output ∷ []) s) (asks_for_plans reading names [] s) s left
+    × MakesPack written reading profile before names output s left r
+
 -- ---- the file of plans behind no further files
 
 pub packs-made : {O : Type 0} (written : O → Option (List ℕ)) (reading : Reading) (profile : Profile) (before : List Plan) (output : List ℕ) (s left : Sources) (r : Made O)
-    → MakesFile written before output (can_create output s.creatable) r → MakesPack written reading profile before [] output s left r
-packs-made written reading profile before output s left (Ok made) makes =
+    → AsksAfterReads (answer_of r) (Created output ∷ []) [] s left → MakesFile written before output (can_create output s.creatable) r
+    → MakesPack written reading profile before [] output s left r
+packs-made written reading profile before output s left (Ok made) asks makes =
     (refl, makes.0, record { plans = []; right = refl; holds = subst (λ ps. HoldsPlans ps (written made)) (sym (append-nil before)) makes.1 })
-packs-made written reading profile before output s left (Err (stop, Some made)) makes =
+packs-made written reading profile before output s left (Err (stop, Some made)) asks makes =
     (makes.0, (refl, makes.1.0, record { plans = []; right = refl; holds = subst (λ ps. HoldsPrefix ps (written made)) (sym (append-nil before)) makes.1.1 }))
-packs-made written reading profile before output s left (Err (stop, None)) makes = (makes.0, inr makes.1)
+packs-made written reading profile before output s left (Err (OutOfMemory, None)) asks makes = (tt, inl (none-asked s left asks, tt))
+packs-made written reading profile before output s left (Err (WriteFault, None)) asks makes = absurd makes.0
+packs-made written reading profile before output s left (Err (Refused refusal, None)) asks (why, inl starved) = absurd (cc)
+packs-made written reading profile before output s left (Err (Refused refusal, None)) asks (why, inr cannot) = (why, inr cannot)
 
 pub pack-made : {O : Type 0} (written : O → Option (List ℕ)) (reading : Reading) (profile : Profile) (before : List Plan) (output : List ℕ) (known left : Option Sources) (r : Made O)
-    → IfKnown known left (λ s l. (l ≡ after (Created output) s) × MakesFile written before output (can_create output s.creatable) r)
-    → IfKnown known left (λ s l. AreShort s → Asks (answer_of r) (asks_for_plans reading [] (Created output) s) s l × MakesPack written reading profile before [] output s l r)
+    → IfKnown known left (λ s l. AsksAfterReads (answer_of r) (Created output ∷ []) [] s l × MakesFile written before output (can_create output s.creatable) r)
+    → IfKnown known left (λ s l. AreShort s → AsksAndMakes written reading profile before [] output s l r)
 pack-made written reading profile before output known left r makes =
-    IfKnown-weaker known left _ (λ s l. AreShort s → Asks (answer_of r) (asks_for_plans reading [] (Created output) s) s l × MakesPack written reading profile before [] output s l r) makes (λ s l h short.
-    (asks-all (answer_of r) (Created output ∷ []) s l h.0, packs-made written reading profile before output s l r h.1))
+    IfKnown-weaker known left _ (λ s l. AreShort s → AsksAndMakes written reading profile before [] output s l r) makes (λ s l h short.
+    (h.0, packs-made written reading profile before output s l r h.0 h.1))
 
 -- ---- one file of patterns, and those behind it
 
@@ -94,37 +104,38 @@ packs-next written reading profile before file names output s left plan (Err (st
 -- the plan file of patterns that have a plan
 pub pack-next : {O : Type 0} (written : O → Option (List ℕ)) (reading : Reading) (profile : Profile) (before : List Plan) (file : List ℕ) (names : List (List ℕ)) (output : List ℕ) (known mid left : Option Sources) (plan : Plan) (r : Made O)
     → IfKnown known mid (λ s m. AreShort s → (m ≡ after (ask_of file) s) × TakesPlan reading profile file (taken_by (ask_of file) s) (Ok plan))
-    → IfKnown mid left (λ m l. AreShort m → Asks (answer_of r) (asks_for_plans reading names (Created output) m) m l × MakesPack written reading profile (before ++ plan ∷ []) names output m l r)
-    → IfKnown known left (λ s l. AreShort s → Asks (answer_of r) (asks_for_plans reading (file ∷ names) (Created output) s) s l × MakesPack written reading profile before (file ∷ names) output s l r)
-pack-next written reading profile before file names output known mid left plan r reads makes =
-    IfKnown-then known mid left _ _ (λ s l. AreShort s → Asks (answer_of r) (asks_for_plans reading (file ∷ names) (Created output) s) s l × MakesPack written reading profile before (file ∷ names) output s l r) reads makes (λ s m l h g short.
+    → IfKnown mid left (λ m l. AreShort m → AsksAndMakes written reading profile (before ++ plan ∷ []) names output m l r)
+    → IfKnown known left (λ s l. AreShort s → AsksAndMakes written reading profile before (file ∷ names) output s l r)
+pack-next written reading profile before file names output known mid left plan r taken_from makes =
+    IfKnown-then known mid left _ _ (λ s l. AreShort s → AsksAndMakes written reading profile before (file ∷ names) output s l r) taken_from makes (λ s m l h g short.
     let taken = h short in
     let rest = g (subst AreShort (sym taken.0) (short-after (ask_of file) s short)) in
-    let here = subst (λ x. Asks (answer_of r) (asks_for_plans reading names (Created output) x) x l × MakesPack written reading profile (before ++ plan ∷ []) names output x l r) taken.0 rest in
-    let more : List Ask = asks_for_plans reading names (Created output) (after (ask_of file) s) in
+    let here = subst (λ x. AsksAndMakes written reading profile (before ++ plan ∷ []) names output x l r) taken.0 rest in
+    let more : List Ask = asks_for_plans reading names (Created output ∷ []) (after (ask_of file) s) in
+    let reads : List Ask = asks_for_plans reading names [] (after (ask_of file) s) in
     let message : Option (List ℕ) = plan_message reading file (taken_by (ask_of file) s) in (
-      same-asks (answer_of r) (ask_of file) more message s l taken.1.0 (asks-more (answer_of r) (ask_of file) more s l here.0),
+      same-asks (answer_of r) (ask_of file) more reads message s l taken.1.0 (asks-more (answer_of r) (ask_of file) more reads s l here.0),
       packs-next written reading profile before file names output s l plan r taken.1.0 taken.1.1 here.1,
     ))
 
 -- and of patterns that have none
 pub pack-stopped : {O : Type 0} (written : O → Option (List ℕ)) (reading : Reading) (profile : Profile) (before : List Plan) (file : List ℕ) (names : List (List ℕ)) (output : List ℕ) (known mid : Option Sources) (stop : Stop)
     → IfKnown known mid (λ s left. AreShort s → (left ≡ after (ask_of file) s) × TakesPlan reading profile file (taken_by (ask_of file) s) (Err stop))
-    → IfKnown known mid (λ s left. AreShort s → Asks {T = O} (Err stop) (asks_for_plans reading (file ∷ names) (Created output) s) s left × MakesPack {O = O} written reading profile before (file ∷ names) output s left (Err (stop, None)))
+    → IfKnown known mid (λ s left. AreShort s → AsksAndMakes {O = O} written reading profile before (file ∷ names) output s left (Err (stop, None)))
 pack-stopped {O} written reading profile before file names output known mid stop reads =
-    IfKnown-weaker known mid _ (λ s left. AreShort s → Asks {T = O} (Err stop) (asks_for_plans reading (file ∷ names) (Created output) s) s left × MakesPack {O = O} written reading profile before (file ∷ names) output s left (Err (stop, None))) reads (λ s left h short.
+    IfKnown-weaker known mid _ (λ s left. AreShort s → AsksAndMakes {O = O} written reading profile before (file ∷ names) output s left (Err (stop, None))) reads (λ s left h short.
     let taken = h short in
     let message : Option (List ℕ) = plan_message reading file (taken_by (ask_of file) s) in
     let others : Option (List ℕ) = plan_messages reading names (after (ask_of file) s) in
     let first : Explains stop (option_or message others) = first-explains stop message others taken.1 in (
-      asks-stopped O file (asks_for_plans reading names (Created output) (after (ask_of file) s)) message stop s left taken.1 taken.0,
+      asks-stopped O file (asks_for_plans reading names (Created output ∷ []) (after (ask_of file) s)) (asks_for_plans reading names [] (after (ask_of file) s)) message stop s left taken.1 taken.0,
       (first-explains stop (option_or message others) (Some (unusable output)) first, inl (inl taken.0, first)),
     ))
 
 -- memory ran out behind a plan
 pub pack-starved : {O : Type 0} (written : O → Option (List ℕ)) (reading : Reading) (profile : Profile) (before : List Plan) (file : List ℕ) (names : List (List ℕ)) (output : List ℕ) (known mid : Option Sources) (plan : Plan)
     → IfKnown known mid (λ s left. AreShort s → (left ≡ after (ask_of file) s) × TakesPlan reading profile file (taken_by (ask_of file) s) (Ok plan))
-    → IfKnown known mid (λ s left. AreShort s → Asks {T = O} (Err OutOfMemory) (asks_for_plans reading (file ∷ names) (Created output) s) s left × MakesPack {O = O} written reading profile before (file ∷ names) output s left (Err (OutOfMemory, None)))
+    → IfKnown known mid (λ s left. AreShort s → AsksAndMakes {O = O} written reading profile before (file ∷ names) output s left (Err (OutOfMemory, None)))
 pack-starved {O} written reading profile before file names output known mid plan reads =
     pack-stopped {O = O} written reading profile before file names output known mid OutOfMemory
     (IfKnown-weaker known mid _ (λ s left. AreShort s → (left ≡ after (ask_of file) s) × TakesPlan reading profile file (taken_by (ask_of file) s) (Err OutOfMemory)) reads (λ s left h short. ((h short).0, tt)))
@@ -132,10 +143,10 @@ pack-starved {O} written reading profile before file names output known mid plan
 -- the same of the names of files that have such a list
 pub packs-of : {O : Type 0} (written : O → Option (List ℕ)) (reading : Reading) (profile : Profile) (before : List Plan) (all names : List (List ℕ)) (output : List ℕ) (known left : Option Sources) (r : Made O)
     → all ≡ names
-    → IfKnown known left (λ s l. AreShort s → Asks (answer_of r) (asks_for_plans reading names (Created output) s) s l × MakesPack written reading profile before names output s l r)
-    → IfKnown known left (λ s l. AreShort s → Asks (answer_of r) (asks_for_plans reading all (Created output) s) s l × MakesPack written reading profile before all output s l r)
+    → IfKnown known left (λ s l. AreShort s → AsksAndMakes written reading profile before names output s l r)
+    → IfKnown known left (λ s l. AreShort s → AsksAndMakes written reading profile before all output s l r)
 packs-of written reading profile before all names output known left r same makes =
-    subst (λ xs. IfKnown known left (λ s l. AreShort s → Asks (answer_of r) (asks_for_plans reading xs (Created output) s) s l × MakesPack written reading profile before xs output s l r)) (sym same) makes
+    subst (λ xs. IfKnown known left (λ s l. AreShort s → AsksAndMakes written reading profile before xs output s l r)) (sym same) makes
 
 -- none is left of them
 pub names-none : {Z : Type 0} (names : List (String Z)) → length names < 1 → map string_bytes names ≡ []
@@ -154,10 +165,10 @@ names-first (name ∷ rest) item default file some is same =
 
 pub pack-own : {O : Type 0} (written : O → Option (List ℕ)) (reading : Reading) (profile : Profile) (names : List (List ℕ)) (output : List ℕ) (known : Option Sources) (stop : Stop)
     → reads_file names output ≡ true → is_refusal stop ≡ true → Explains stop (Some (unusable output))
-    → IfKnown known known (λ s l. AreShort s → Asks {T = O} (Err stop) (pack_asks reading names output s) s l × PacksFiles {O = O} written reading profile names output s l (Err (stop, None)))
+    → IfKnown known known (λ s l. AreShort s → AsksAfterReads {T = O} (Err stop) (pack_asks reading names output s) (pack_reads reading names output s) s l × PacksFiles {O = O} written reading profile names output s l (Err (stop, None)))
 pack-own {O} written reading profile names output known stop own refused why =
-    IfKnown-none known (λ s l. AreShort s → Asks {T = O} (Err stop) (pack_asks reading names output s) s l × PacksFiles {O = O} written reading profile names output s l (Err (stop, None))) (λ s short. (
-      subst (λ b. Asks {T = O} (Err stop) (cond b [] (asks_for_plans reading names (Created output) s)) s s) (sym own) (asks-all {T = O} (Err stop) [] s s refl),
+    IfKnown-none known (λ s l. AreShort s → AsksAfterReads {T = O} (Err stop) (pack_asks reading names output s) (pack_reads reading names output s) s l × PacksFiles {O = O} written reading profile names output s l (Err (stop, None))) (λ s short. (
+      subst (λ b. AsksAfterReads {T = O} (Err stop) (cond b [] (asks_for_plans reading names (Created output ∷ []) s)) (cond b [] (asks_for_plans reading names [] s)) s s) (sym own) (asks-all {T = O} (Err stop) [] s s refl),
       Own stop own refused why refl refl,
     ))
 
@@ -228,14 +239,3 @@ pub pack-named-starved : (reading : Reading) (names : List (List ℕ)) (known mi
     → IfKnown known mid (λ s left. AreShort s → NamesPack reading names s OutOfMemory)
 pack-named-starved reading names known mid P reads =
     IfKnown-weaker known mid P (λ s left. AreShort s → NamesPack reading names s OutOfMemory) reads (λ s left p short. names-none-refused reading names s OutOfMemory (λ source. tt))
-
--- ---- a file that stays empty
-
--- one that does from some ask on does from those before it on
-pub stays-empty : {T O : Type 0} (written : O → Option (List ℕ)) (known mid : Option Sources) (P : Sources → Sources → Type 0) (r : Result T (Stop × Option O)) → IfKnown known mid P
-    → StaysEmpty written mid r → StaysEmpty written known r
-stays-empty written known mid P (Ok made) reads stays = tt
-stays-empty written known mid P (Err (stop, None)) reads stays = λ memory. tt
-stays-empty written None mid P (Err (stop, Some made)) reads stays = λ memory. tt
-stays-empty written (Some s) None P (Err (stop, Some made)) reads stays = absurd reads
-stays-empty written (Some s) (Some m) P (Err (stop, Some made)) reads stays = λ memory. stays memory

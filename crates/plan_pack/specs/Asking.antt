@@ -20,14 +20,18 @@ reads_file [] name = false
 reads_file (operand ∷ operands) name = if is_file operand name then true else reads_file operands name
 
 -- the files of patterns until one gives no plan, and what comes once all have one
-abbrev pub asks_for_plans : Reading → List (List ℕ) → Ask → Sources → List Ask
-asks_for_plans reading [] last s = last ∷ []
+abbrev pub asks_for_plans : Reading → List (List ℕ) → List Ask → Sources → List Ask
+asks_for_plans reading [] last s = last
 asks_for_plans reading (name ∷ names) last s =
     ask_of name ∷ (if is_some (plan_message reading name (taken_by (ask_of name) s)) then [] else asks_for_plans reading names last (after (ask_of name) s))
 
 -- to pack, nothing where the plan file is one of them, and else it comes last
 abbrev pub pack_asks : Reading → List (List ℕ) → List ℕ → Sources → List Ask
-pack_asks reading names output s = if reads_file names output then [] else asks_for_plans reading names (Created output) s
+pack_asks reading names output s = if reads_file names output then [] else asks_for_plans reading names (Created output ∷ []) s
+
+-- of these, the files that are read
+abbrev pub pack_reads : Reading → List (List ℕ) → List ℕ → Sources → List Ask
+pack_reads reading names output s = if reads_file names output then [] else asks_for_plans reading names [] s
 
 -- likewise the plan file that is read, and the new one once there are plans
 abbrev pub migrate_asks : List ℕ → List ℕ → List Ask
@@ -40,13 +44,17 @@ pub data LeavesMigrate (input output : List ℕ) (s left : Sources) : Type 0 whe
   WithPlans : (plans : List Plan) → IsSourceOf (taken_by (ask_of input) s) plans → left ≡ after_all (migrate_asks input output) s
       → LeavesMigrate input output s left
 
--- this holds, unless memory ran out: then some of the asks were made, from their start
+-- this holds, unless memory ran out: then some of the reads were asked for, from their start, and nothing else
 abbrev pub UnlessStarved : {T : Type 0} → Result T Stop → Type 0 → List Ask → Sources → Sources → Type 0
-UnlessStarved (Ok _) P all s left = P
-UnlessStarved (Err (Refused refusal)) P all s left = P
-UnlessStarved (Err WriteFault) P all s left = P
-UnlessStarved (Err OutOfMemory) P all s left = AsksPrefix all s left
+UnlessStarved (Ok _) P reads s left = P
+UnlessStarved (Err (Refused refusal)) P reads s left = P
+UnlessStarved (Err WriteFault) P reads s left = P
+UnlessStarved (Err OutOfMemory) P reads s left = AsksPrefix reads s left
 
--- all asks were made, unless memory ran out
+-- all asks were made; where memory ran out, reads alone
+abbrev pub AsksAfterReads : {T : Type 0} → Result T Stop → List Ask → List Ask → Sources → Sources → Type 0
+AsksAfterReads result all reads s left = UnlessStarved result (left ≡ after_all all s) reads s left
+
+-- where all asks are reads: all were made, unless memory ran out
 abbrev pub Asks : {T : Type 0} → Result T Stop → List Ask → Sources → Sources → Type 0
-Asks result all s left = UnlessStarved result (left ≡ after_all all s) all s left
+Asks result reads s left = AsksAfterReads result reads reads s left

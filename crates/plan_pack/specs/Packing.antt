@@ -1,14 +1,10 @@
 -- Making a plan file, and what a stop leaves of it.
-use Rattle.std.specs.Prelude.{◌≡◌, ◌⊎◌, ℕ, Bool, true, false, List, [], ◌∷◌, ◌++◌, ⊤, IfErr, IfSome, MatchOption, Option, Some, None, Result, Ok, Err}
-use Rattle.std.specs.Io.KnownBytes.{Appends}
+use Rattle.std.specs.Prelude.{◌≡◌, ◌⊎◌, ℕ, Bool, true, false, List, [], ◌∷◌, ◌++◌, ⊤, IfErr, MatchOption, Option, Some, None, Result, Ok, Err}
 use Rattle.std.specs.Option.{option_or}
 use Rattle.byte_io.specs.Sources.{Sources, after, ask_of, can_create, taken_by}
-use Rattle.byte_io.specs.Transfers.{AppendsPart}
 use Rattle.lit_plan.specs.Plans.{Plan}
 use Rattle.plan_pack.specs.Asking.{reads_file}
 use Rattle.lit_base.specs.declared.profile.Profile.{Profile}
-use Rattle.plan_file.specs.Spelling.{ArePlans, spelling}
-use Rattle.plan_file.specs.declared.version.Version.TheVariants.{Two}
 use Rattle.plan_pack.specs.Lists.{ArePlansOf, plan_message, plan_messages}
 use Rattle.plan_pack.specs.Messages.{unusable}
 use Rattle.plan_pack.specs.PlanFiles.{HoldsPrefix, HoldsPlans}
@@ -17,12 +13,6 @@ use Rattle.plan_pack.specs.Taken.{NamesStop}
 use Rattle.plan_pack.specs.declared.notation.Reading.{Reading}
 use Rattle.plan_pack.specs.declared.stop.Stop.{Stop}
 use Rattle.plan_pack.specs.declared.stop.Stop.TheVariants.{OutOfMemory}
-
--- a device was given the plan file of plans, in version 2; or a prefix of it, and not all, where a write to the file of
--- this name failed or memory ran out
-abbrev pub Packs : List ℕ → List Plan → Result (Unit {0}) Stop → Option (List ℕ) → Option (List ℕ) → Type 0
-Packs name plans (Ok done) old new = ArePlans Two plans × Appends old new (spelling Two plans)
-Packs name plans (Err stop) old new = Explains stop (Some (unusable name)) × AppendsPart old new (spelling Two plans)
 
 -- the answer on a file that was to be made: the file; or a stop, with the file as far as it was made
 abbrev pub Made : Type 0 → Type 0
@@ -33,11 +23,11 @@ abbrev pub answer_of : {T O : Type 0} → Result T (Stop × Option O) → Result
 answer_of (Ok made) = Ok made
 answer_of (Err stopped) = Err stopped.0
 
--- what a stop leaves of a file for plans: it was made, where it can be, and holds a prefix; or it cannot be made, which
--- takes no memory to say
+-- what a stop leaves of a file for plans: it was made, where it can be, and holds a prefix; or memory ran out before; or
+-- it cannot be made
 abbrev pub LeavesFile : {O : Type 0} → (O → Option (List ℕ)) → List Plan → Bool → Stop → Option O → Type 0
 LeavesFile written plans can stop (Some made) = (can ≡ true) × HoldsPrefix plans (written made)
-LeavesFile written plans can stop None = (can ≡ false) × (is_refusal stop ≡ true)
+LeavesFile written plans can stop None = (stop ≡ OutOfMemory) ⊎ ((can ≡ false) × (is_refusal stop ≡ true))
 
 -- a file of this name was made, where it can be, and holds the plans; or the message, and the file as far as it was
 -- made
@@ -45,10 +35,9 @@ abbrev pub MakesFile : {O : Type 0} → (O → Option (List ℕ)) → List Plan 
 MakesFile written plans name can (Ok made) = (can ≡ true) × HoldsPlans plans (written made)
 MakesFile written plans name can (Err stopped) = Explains stopped.0 (Some (unusable name)) × LeavesFile written plans can stopped.0 stopped.1
 
--- where memory ran out, nothing was written to a file that was made, if the files are known
-abbrev pub StaysEmpty : {T O : Type 0} → (O → Option (List ℕ)) → Option Sources → Result T (Stop × Option O) → Type 0
-StaysEmpty written known r =
-    IfErr r (λ stopped. stopped.0 ≡ OutOfMemory → IfSome stopped.1 (λ made. IfSome known (λ s. written made ≡ Some [])))
+-- where memory ran out, no file was made
+abbrev pub NoneIfStarved : {T O : Type 0} → Result T (Stop × Option O) → Type 0
+NoneIfStarved r = IfErr r (λ stopped. stopped.0 ≡ OutOfMemory → stopped.1 ≡ None)
 
 -- ---- from files of patterns
 
@@ -64,13 +53,13 @@ pub record HoldsPrefixOf (reading : Reading) (profile : Profile) (before : List 
   pub right : ArePlansOf reading profile names s plans
   pub holds : HoldsPrefix (before ++ plans) written
 
--- files of patterns were asked for, the first at least, and nothing else
+-- files of patterns were asked for, the first at least where there is one, and nothing else
 abbrev pub IsBefore : List (List ℕ) → Sources → Sources → Type 0
-IsBefore [] s left = ⊥
+IsBefore [] s left = left ≡ s
 IsBefore (name ∷ names) s left = (left ≡ after (ask_of name) s) ⊎ IsBefore names (after (ask_of name) s) left
 
 -- what a stop leaves of the plan file: a prefix; or nothing, where one of the files gives no plan, or memory ran out
--- there, or it cannot be made
+-- before it was made, or it cannot be made
 abbrev pub LeavesPack : {O : Type 0} → (O → Option (List ℕ)) → Reading → Profile → List Plan → List (List ℕ) → List ℕ → Sources → Sources → Stop → Option O → Type 0
 LeavesPack written reading profile before names output s left stop (Some made) =
     (plan_messages reading names s ≡ None) × (can_create output s.creatable ≡ true) × HoldsPrefixOf reading profile before names s (written made)

@@ -18,7 +18,7 @@ mod stop;
 pub use fault::Fault;
 pub use migrating::{migrate, migrate_file};
 pub use notation::{Notation, Reading};
-pub use packing::{Unmade, pack, pack_into, stop_of};
+pub use packing::{Unmade, pack, stop_of};
 pub use pattern_files::PatternFiles;
 pub use patterns::hex_law;
 pub use planning::plan_of;

@@ -1,11 +1,11 @@
 //! Plans of sixteen buckets in place of others.
 ghost use Rattle.std.specs.Prelude.{◌≡◌, ◌+◌, ◌++◌, ◌∷◌, ◌≤◌, [], IfErr, IfOk, IfSome, OnOk, false, length};
 ghost use Rattle.byte_io.specs.Devices.{IfKnown};
-ghost use Rattle.byte_io.specs.Sources.{AreShort, Created};
-ghost use Rattle.plan_pack.specs.Asking.{Asks, LeavesMigrate, UnlessStarved, migrate_asks};
+ghost use Rattle.byte_io.specs.Sources.{AreShort, Created, ask_of};
+ghost use Rattle.plan_pack.specs.Asking.{AsksAfterReads, LeavesMigrate, UnlessStarved};
 ghost use Rattle.plan_pack.specs.Migrated.{AreMigrated, IsMigrated, migrated_line, migrated_lines};
 ghost use Rattle.plan_pack.specs.Migrating.{MakesMigrated, Migrates};
-ghost use Rattle.plan_pack.specs.Packing.{StaysEmpty, answer_of};
+ghost use Rattle.plan_pack.specs.Packing.{NoneIfStarved, answer_of};
 ghost use Rattle.plan_pack.specs.Stops.{is_refusal, is_write};
 ghost use Rattle.plan_pack.specs.Taken.{OpensBeforeMemory};
 
@@ -20,15 +20,15 @@ use run_planner::plan;
 use std::alloc::{AllocError, Global};
 
 /// Migrates the plans of a plan file to another. Returns a line for each plan, and the new file as it was written. The
-/// first file is read whole, and all that takes memory but the new file's text is done, before the other is made.
+/// first file is read whole, and all that takes memory is done, before the other is made.
 ///
 /// # Errors
 /// - `Refused` with the fault of the first file; else with the other's name, where it cannot be made or not be written
 ///   to its end.
-/// - `OutOfMemory`, where a growth was refused, once the first file is open.
+/// - `OutOfMemory`, where a growth was refused, once the first file is open: then no file is made.
 ///
-/// With them comes the file that was made, if one was. It holds a prefix of the plan file, and not all of it; after
-/// `OutOfMemory` nothing. A write to it failed exactly where its name is refused.
+/// With them comes the file that was made, if one was. A write to it failed, and it holds a prefix of the plan file, and
+/// not all of it.
 pub fn migrate_file<'a, F: Files>(
     alloc: Global,
     input: &'a str,
@@ -36,7 +36,7 @@ pub fn migrate_file<'a, F: Files>(
     files: &mut F,
 ) -> Result<(Vec<u8>, F::Output), Unmade<'a, F::Output>>
     ensures migrated { IfKnown (F.sources files.old) (F.sources files.new) (λ s left. AreShort s
-        → UnlessStarved (answer_of result) (LeavesMigrate input.now output.now s left) (migrate_asks input.now output.now) s left
+        → UnlessStarved (answer_of result) (LeavesMigrate input.now output.now s left) (ask_of input.now ∷ []) s left
         × Migrates F.Output.written input.now output.now s left result) }
     ensures opens { OpensBeforeMemory (F.sources files.old) input.now (answer_of result) }
 
@@ -44,7 +44,7 @@ pub fn migrate_file<'a, F: Files>(
     // refused.
     ensures flag { IfOk result (λ done. F.Output.has_failed done.1 ≡ false) }
     ensures broken { IfErr result (λ stopped. IfSome stopped.1 (λ made. F.Output.has_failed made ≡ is_refusal stopped.0)) }
-    ensures starved { StaysEmpty F.Output.written (F.sources files.old) result }
+    ensures starved { NoneIfStarved result }
     ensures unwritten { IfErr result (λ stopped. is_write stopped.0 ≡ false) }
 {
     match plans_of(alloc, input, files) {
@@ -62,11 +62,11 @@ fn migrate_to<'a, F: Files>(
 ) -> Result<(Vec<u8>, F::Output), Unmade<'a, F::Output>>
     requires { length plans.now ≤ 64 }
     ensures migrated { IfKnown (F.sources files.old) (F.sources files.new) (λ s left.
-        Asks (answer_of result) (Created name.now ∷ []) s left
+        AsksAfterReads (answer_of result) (Created name.now ∷ []) [] s left
         × MakesMigrated F.Output.written plans.now name.now s left result) }
     ensures flag { IfOk result (λ done. F.Output.has_failed done.1 ≡ false) }
     ensures broken { IfErr result (λ stopped. IfSome stopped.1 (λ made. F.Output.has_failed made ≡ is_refusal stopped.0)) }
-    ensures starved { StaysEmpty F.Output.written (F.sources files.old) result }
+    ensures starved { NoneIfStarved result }
     ensures unwritten { IfErr result (λ stopped. is_write stopped.0 ≡ false) }
 {
     match migrate_with_lines(alloc, plans) {

@@ -1,19 +1,18 @@
 //! Making a plan file.
-ghost use Rattle.std.specs.Prelude.{◌≡◌, ◌≤◌, ◌+◌, ◌||◌, ◌++◌, ◌∷◌, [], Err, IfErr, IfOk, IfSome, false, length, map, string_bytes};
+ghost use Rattle.std.specs.Prelude.{◌≤◌, ◌+◌, ◌++◌, ◌∷◌, ◌≡◌, [], IfErr, IfOk, IfSome, false, length, map, string_bytes};
 ghost use Rattle.byte_io.specs.Devices.{IfKnown};
-ghost use Rattle.byte_io.specs.Sources.{AreShort, Created, after, can_create};
-ghost use Rattle.plan_pack.specs.Asking.{Asks, asks_for_plans, is_file, pack_asks, reads_file};
-ghost use Rattle.plan_pack.specs.Packing.{MakesFile, MakesPack, NamesPack, Packs, PacksFiles, StaysEmpty, answer_of};
-ghost use Rattle.plan_pack.specs.Stops.{is_refusal, is_refused, is_write};
-ghost use Rattle.plan_pack.specs.declared.stop.Stop.{Stop};
+ghost use Rattle.byte_io.specs.Sources.{AreShort, Created, can_create};
+ghost use Rattle.plan_pack.specs.Asking.{AsksAfterReads, asks_for_plans, is_file, pack_asks, pack_reads, reads_file};
+ghost use Rattle.plan_pack.specs.Packing.{MakesFile, MakesPack, NamesPack, NoneIfStarved, PacksFiles, answer_of};
+ghost use Rattle.plan_pack.specs.Stops.{is_refusal, is_write};
 
 use crate::notation::Reading;
 use crate::planning::plan_of;
 use crate::stop::{Refusal, Stop};
-use byte_io::{ByteOut, Files};
+use byte_io::{Failed, Files, write_all};
 use lit_base::Profile;
 use lit_plan::Compiled;
-use plan_file::{Fault, write_plans};
+use plan_file::encode;
 use std::alloc::{AllocError, Global};
 
 /// Why a plan file was not made whole, and the file as far as it was made.
@@ -28,16 +27,16 @@ pub fn stop_of<O: Drop>(unmade: Unmade<'_, O>) -> Stop<'_>
 }
 
 /// Makes the plan file of files of patterns, with a plan for each, in order. Returns the file as it was written. The
-/// patterns of all files are read and planned before it is made.
+/// patterns of all files are read and planned, and the plan file's text is made, before the file is.
 ///
 /// # Errors
 /// - `Refused` with the plan file's name, where it is also the name of a file of patterns: then nothing is read. Else
 ///   with the refusal of the first file that gives no plan. Else with the plan file's name, where
 ///   it cannot be made or not be written to its end.
-/// - `OutOfMemory`, where a growth was refused.
+/// - `OutOfMemory`, where a growth was refused: then no file is made.
 ///
-/// With them comes the file that was made, if one was. It holds a prefix of the plan file, and not all of it; after
-/// `OutOfMemory` nothing. A write to it failed exactly where its name is refused.
+/// With them comes the file that was made, if one was. A write to it failed, and it holds a prefix of the plan file, and
+/// not all of it.
 pub fn pack<'a, F: Files>(
     alloc: Global,
     reading: Reading,
@@ -48,7 +47,8 @@ pub fn pack<'a, F: Files>(
 ) -> Result<F::Output, Unmade<'a, F::Output>>
     requires { length names.now ≤ 64 }
     ensures packed { IfKnown (F.sources files.old) (F.sources files.new) (λ s left. AreShort s
-        → Asks (answer_of result) (pack_asks reading (map string_bytes names.now) output.now s) s left
+        → AsksAfterReads (answer_of result) (pack_asks reading (map string_bytes names.now) output.now s)
+        (pack_reads reading (map string_bytes names.now) output.now s) s left
         × PacksFiles F.Output.written reading profile (map string_bytes names.now) output.now s left result) }
 
     // Where patterns are refused, the refusal names one of the first file that gives no plan.
@@ -59,7 +59,7 @@ pub fn pack<'a, F: Files>(
     // refused.
     ensures flag { IfOk result (λ made. F.Output.has_failed made ≡ false) }
     ensures broken { IfErr result (λ stopped. IfSome stopped.1 (λ made. F.Output.has_failed made ≡ is_refusal stopped.0)) }
-    ensures starved { StaysEmpty F.Output.written (F.sources files.old) result }
+    ensures starved { NoneIfStarved result }
     ensures unwritten { IfErr result (λ stopped. is_write stopped.0 ≡ false) }
 {
     if reads_file(names, output) {
@@ -109,13 +109,14 @@ fn pack_with<'a, F: Files>(
 ) -> Result<F::Output, Unmade<'a, F::Output>>
     requires { length plans.items + length names.now ≤ 64 }
     ensures packed { IfKnown (F.sources files.old) (F.sources files.new) (λ s left. AreShort s
-        → Asks (answer_of result) (asks_for_plans reading (map string_bytes names.now) (Created output.now) s) s left
+        → AsksAfterReads (answer_of result) (asks_for_plans reading (map string_bytes names.now) (Created output.now ∷ []) s)
+        (asks_for_plans reading (map string_bytes names.now) [] s) s left
         × MakesPack F.Output.written reading profile plans.items (map string_bytes names.now) output.now s left result) }
     ensures named { IfErr result (λ stopped. IfKnown (F.sources files.old) (F.sources files.new) (λ s left. AreShort s
         → NamesPack reading (map string_bytes names.now) s stopped.0)) }
     ensures flag { IfOk result (λ made. F.Output.has_failed made ≡ false) }
     ensures broken { IfErr result (λ stopped. IfSome stopped.1 (λ made. F.Output.has_failed made ≡ is_refusal stopped.0)) }
-    ensures starved { StaysEmpty F.Output.written (F.sources files.old) result }
+    ensures starved { NoneIfStarved result }
     ensures unwritten { IfErr result (λ stopped. is_write stopped.0 ≡ false) }
 {
     match names {
@@ -143,8 +144,8 @@ fn with_plan(mut plans: Vec<Compiled>, plan: Compiled) -> Result<Vec<Compiled>, 
 /// Makes the plan file of plans, at most 64, under a name, and returns it as it was written.
 ///
 /// # Errors
+/// - `OutOfMemory`, where a growth was refused: then no file is made.
 /// - `Refused` with the name, where the file cannot be made or not be written to its end.
-/// - `OutOfMemory`, where a growth was refused.
 ///
 /// With them comes the file that was made, if one was, as with the errors of `pack`.
 pub fn make<'a, F: Files>(
@@ -155,47 +156,23 @@ pub fn make<'a, F: Files>(
 ) -> Result<F::Output, Unmade<'a, F::Output>>
     requires { length plans.now ≤ 64 }
     ensures made { IfKnown (F.sources files.old) (F.sources files.new) (λ s left.
-        (left ≡ after (Created name.now) s)
+        AsksAfterReads (answer_of result) (Created name.now ∷ []) [] s left
         × MakesFile F.Output.written plans.now name.now (can_create name.now s.creatable) result) }
     ensures flag { IfOk result (λ made. F.Output.has_failed made ≡ false) }
     ensures broken { IfErr result (λ stopped. IfSome stopped.1 (λ made. F.Output.has_failed made ≡ is_refusal stopped.0)) }
-    ensures starved { StaysEmpty F.Output.written (F.sources files.old) result }
+    ensures starved { NoneIfStarved result }
     ensures unwritten { IfErr result (λ stopped. is_write stopped.0 ≡ false) }
 {
+    // The text comes first, so that want of memory leaves a file of this name as it is.
+    let Ok(text) = encode(alloc, plans) else {
+        return Err((Stop::OutOfMemory, None));
+    };
+    let unusable = Stop::Refused(Refusal::Unusable(name));
     match files.create_named(name) {
-        Ok(mut made) => match pack_into(alloc, plans, name, &mut made) {
+        Ok(mut made) => match write_all(&mut made, &text) {
             Ok(()) => Ok(made),
-            Err(stop) => Err((stop, Some(made))),
+            Err(Failed) => Err((unusable, Some(made))),
         },
-        Err(_) => Err((Stop::Refused(Refusal::Unusable(name)), None)),
-    }
-}
-
-/// Writes the plan file of plans, at most 64, to a device, which is called so.
-///
-/// # Errors
-/// - `Refused`, with its name, where a write failed.
-/// - `OutOfMemory`, where a growth was refused.
-///
-/// After a refusal a prefix of the plan file was written, and not all of it. After `OutOfMemory` nothing was written.
-pub fn pack_into<'a, W: ByteOut>(
-    alloc: Global,
-    plans: &[Compiled],
-    name: &'a str,
-    out: &mut W,
-) -> Result<(), Stop<'a>>
-    requires { length plans.now ≤ 64 }
-    ensures packed { Packs name.now plans.now result (W.written out.old) (W.written out.new) }
-    ensures starved { result ≡ Err Stop.OutOfMemory → out.new ≡ out.old }
-
-    // It is refused exactly where a write failed.
-    ensures flag { W.has_failed out.new ≡ (W.has_failed out.old || is_refused result) }
-{
-    match write_plans(alloc, plans, out) {
-        Ok(()) => Ok(()),
-        Err(Fault::WriteFault) => Err(Stop::Refused(Refusal::Unusable(name))),
-        Err(Fault::OutOfMemory) => Err(Stop::OutOfMemory),
-        Err(Fault::BadPlanFile { .. }) => unreachable!(),
-        Err(Fault::ReadFault) => unreachable!(),
+        Err(_) => Err((unusable, None)),
     }
 }

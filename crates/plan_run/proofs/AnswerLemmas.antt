@@ -32,7 +32,7 @@ use Rattle.plan_pack.specs.declared.stop.Stop.{Stop}
 use Rattle.plan_pack.specs.declared.stop.Stop.TheVariants.{OutOfMemory, Refused, WriteFault}
 use Rattle.plan_pack.proofs.AskLemmas.{asks-all, asks-stopped}
 use Rattle.plan_pack.proofs.MigrateLemmas.{false-if, true-if}
-use Rattle.plan_run.specs.Answers.{Answer, AnswersCheck, AnswersExplain, AnswersExplainCertificate, AnswersInput, AnswersList, AnswersPlan, AnswersPlanAt, AnswersScan, AnswersUnless, AreHitsReported, BadLine, HasList, HasPlans, IsCertificateAnswer, IsCertificateReported, IsCheckAnswer, IsExplainAnswer, IsNoList, IsPlanAnswer, IsPlanAnswerAt, Judged, NoFile, NoList, Unread, certificate_source, check_asks, input_source, refused_with, refuses, scan_asks, printed, where_wrong, wrong_at_line}
+use Rattle.plan_run.specs.Answers.{Answer, AnswersCheck, AnswersExplain, AnswersExplainCertificate, AnswersInput, AnswersList, AnswersPlan, AnswersPlanAt, AnswersScan, AnswersUnless, AreHitsReported, BadLine, HasList, HasPlans, IsCertificateAnswer, IsCertificateReported, IsCheckAnswer, IsExplainAnswer, IsNoList, IsPlanAnswer, IsPlanAnswerAt, Judged, NoFile, NoList, Unread, certificate_source, check_reads, input_source, refused_with, refuses, scan_reads, printed, where_wrong, wrong_at_line}
 use Rattle.plan_run.specs.Running.{Begun, Silent, Reports, ReportsStop, Writes}
 use Rattle.plan_run.specs.declared.request.Listing.{Listing}
 use Rattle.plan_run.specs.declared.request.View.{View}
@@ -101,12 +101,6 @@ plan-stopped reading profile file known mid stop out reads =
     let taken = h short in
     (asks-all {T = Status} (Err stop) (ask_of file ∷ []) s left taken.0, reports-stop reading file (taken_by (ask_of file) s) (IsPlanAnswer profile) stop out taken.1))
 
--- a stop has made the same asks in any answer
-pub asks-any : (T U : Type 0) (all : List Ask) (s left : Sources) (stop : Stop) → Asks {T = T} (Err stop) all s left → Asks {T = U} (Err stop) all s left
-asks-any T U all s left (Refused refusal) asks = asks
-asks-any T U all s left WriteFault asks = asks
-asks-any T U all s left OutOfMemory asks = asks
-
 -- where there is no message, another ask follows that for the file of patterns
 pub asks-both : (file : List ℕ) (next : Ask) (message : Option (List ℕ)) → message ≡ None
     → ask_of file ∷ cond (is_some message) [] (next ∷ []) ≡ ask_of file ∷ next ∷ []
@@ -117,25 +111,25 @@ asks-both file next (Some text) e = (cc)
 pub check-had : (reading : Reading) (file certificate : List ℕ) (known mid left : Option Sources) (list : Literals) (r : Result Status Stop) (old new : Option (List ℕ))
     → IfKnown known mid (λ s m. AreShort s → (m ≡ after (ask_of file) s) × TakesList reading file (taken_by (ask_of file) s) (Ok list))
     → IfKnown mid left (λ m l. AreShort m → (l ≡ after (Named certificate) m) × Reports (IsCheckAnswer list certificate (taken_by (Named certificate) m)) r old new)
-    → IfKnown known left (λ s l. AreShort s → Asks r (check_asks reading file certificate s) s l × Reports (AnswersCheck reading file certificate s) r old new)
+    → IfKnown known left (λ s l. AreShort s → Asks r (check_reads reading file certificate s) s l × Reports (AnswersCheck reading file certificate s) r old new)
 check-had reading file certificate known mid left list r old new reads judges =
-    IfKnown-then known mid left _ _ (λ s l. AreShort s → Asks r (check_asks reading file certificate s) s l × Reports (AnswersCheck reading file certificate s) r old new) reads judges (λ s m l h g short.
+    IfKnown-then known mid left _ _ (λ s l. AreShort s → Asks r (check_reads reading file certificate s) s l × Reports (AnswersCheck reading file certificate s) r old new) reads judges (λ s m l h g short.
     let taken = h short in
     let judged = g (subst AreShort (sym taken.0) (short-after (ask_of file) s short)) in
     let message : Option (List ℕ) = list_message reading file (taken_by (ask_of file) s) in
     let made : l ≡ after_all (ask_of file ∷ Named certificate ∷ []) s = judged.0 ∙ ap (after (Named certificate)) taken.0 in
     let reports = subst (λ x. Reports (IsCheckAnswer list certificate (taken_by (Named certificate) x)) r old new) taken.0 judged.1 in (
-      asks-all r (check_asks reading file certificate s) s l (made ∙ ap (λ asks. after_all asks s) (sym (asks-both file (Named certificate) message taken.1.0))),
+      asks-all r (check_reads reading file certificate s) s l (made ∙ ap (λ asks. after_all asks s) (sym (asks-both file (Named certificate) message taken.1.0))),
       reports-list reading file (taken_by (ask_of file) s) (λ ls. IsCheckAnswer ls certificate (certificate_source file certificate s)) list r old new taken.1 reports,
     ))
 
 pub check-stopped : (reading : Reading) (file certificate : List ℕ) (known mid : Option Sources) (stop : Stop) (out : Option (List ℕ))
     → IfKnown known mid (λ s left. AreShort s → (left ≡ after (ask_of file) s) × TakesList reading file (taken_by (ask_of file) s) (Err stop))
-    → IfKnown known mid (λ s left. AreShort s → Asks {T = Status} (Err stop) (check_asks reading file certificate s) s left × Reports (AnswersCheck reading file certificate s) (Err stop) out out)
+    → IfKnown known mid (λ s left. AreShort s → Asks {T = Status} (Err stop) (check_reads reading file certificate s) s left × Reports (AnswersCheck reading file certificate s) (Err stop) out out)
 check-stopped reading file certificate known mid stop out reads =
-    IfKnown-weaker known mid _ (λ s left. AreShort s → Asks {T = Status} (Err stop) (check_asks reading file certificate s) s left × Reports (AnswersCheck reading file certificate s) (Err stop) out out) reads (λ s left h short.
+    IfKnown-weaker known mid _ (λ s left. AreShort s → Asks {T = Status} (Err stop) (check_reads reading file certificate s) s left × Reports (AnswersCheck reading file certificate s) (Err stop) out out) reads (λ s left h short.
     let taken = h short in (
-      asks-stopped Status file (Named certificate ∷ []) (list_message reading file (taken_by (ask_of file) s)) stop s left taken.1 taken.0,
+      asks-stopped Status file (Named certificate ∷ []) (Named certificate ∷ []) (list_message reading file (taken_by (ask_of file) s)) stop s left taken.1 taken.0,
       reports-stop reading file (taken_by (ask_of file) s) (λ ls. IsCheckAnswer ls certificate (certificate_source file certificate s)) stop out taken.1,
     ))
 
@@ -163,9 +157,9 @@ input-stopped list listing input known left stop out reads =
 pub scan-had : (reading : Reading) (listing : Listing) (file input : List ℕ) (known mid left : Option Sources) (plan : Plan) (r : Result Status Stop) (old new : Option (List ℕ))
     → IfKnown known mid (λ s m. AreShort s → (m ≡ after (ask_of file) s) × TakesPlan reading Eight file (taken_by (ask_of file) s) (Ok plan))
     → IfKnown mid left (λ m l. AreShort m → (l ≡ after (ask_of input) m) × Reports (AnswersInput plan.literals listing input (taken_by (ask_of input) m)) r old new)
-    → IfKnown known left (λ s l. AreShort s → Asks r (scan_asks reading file input s) s l × Reports (AnswersScan reading listing file input s) r old new)
+    → IfKnown known left (λ s l. AreShort s → Asks r (scan_reads reading file input s) s l × Reports (AnswersScan reading listing file input s) r old new)
 scan-had reading listing file input known mid left plan r old new reads scans =
-    IfKnown-then known mid left _ _ (λ s l. AreShort s → Asks r (scan_asks reading file input s) s l × Reports (AnswersScan reading listing file input s) r old new) reads scans (λ s m l h g short.
+    IfKnown-then known mid left _ _ (λ s l. AreShort s → Asks r (scan_reads reading file input s) s l × Reports (AnswersScan reading listing file input s) r old new) reads scans (λ s m l h g short.
     let taken = h short in
     let scanned = g (subst AreShort (sym taken.0) (short-after (ask_of file) s short)) in
     let message : Option (List ℕ) = plan_message reading file (taken_by (ask_of file) s) in
@@ -173,19 +167,19 @@ scan-had reading listing file input known mid left plan r old new reads scans =
     let made : l ≡ after_all (ask_of file ∷ ask_of input ∷ []) s = scanned.0 ∙ ap (after (ask_of input)) taken.0 in
     let reports = subst (λ x. Reports (AnswersInput plan.literals listing input (taken_by (ask_of input) x)) r old new) taken.0 scanned.1 in
     let answer = AnswersInput list listing input (input_source file input s) in (
-      asks-all r (scan_asks reading file input s) s l (made ∙ ap (λ asks. after_all asks s) (sym (asks-both file (ask_of input) message taken.1.0))),
+      asks-all r (scan_reads reading file input s) s l (made ∙ ap (λ asks. after_all asks s) (sym (asks-both file (ask_of input) message taken.1.0))),
       reports-unless message answer r old new taken.1.0 (subst (λ ls. Reports (AnswersInput ls listing input (input_source file input s)) r old new) taken.1.1.literals reports),
     ))
 
 -- and by a file without a plan
 pub scan-stopped : (reading : Reading) (listing : Listing) (file input : List ℕ) (known mid : Option Sources) (stop : Stop) (out : Option (List ℕ))
     → IfKnown known mid (λ s left. AreShort s → (left ≡ after (ask_of file) s) × TakesPlan reading Eight file (taken_by (ask_of file) s) (Err stop))
-    → IfKnown known mid (λ s left. AreShort s → Asks {T = Status} (Err stop) (scan_asks reading file input s) s left × Reports (AnswersScan reading listing file input s) (Err stop) out out)
+    → IfKnown known mid (λ s left. AreShort s → Asks {T = Status} (Err stop) (scan_reads reading file input s) s left × Reports (AnswersScan reading listing file input s) (Err stop) out out)
 scan-stopped reading listing file input known mid stop out reads =
-    IfKnown-weaker known mid _ (λ s left. AreShort s → Asks {T = Status} (Err stop) (scan_asks reading file input s) s left × Reports (AnswersScan reading listing file input s) (Err stop) out out) reads (λ s left h short.
+    IfKnown-weaker known mid _ (λ s left. AreShort s → Asks {T = Status} (Err stop) (scan_reads reading file input s) s left × Reports (AnswersScan reading listing file input s) (Err stop) out out) reads (λ s left h short.
     let taken = h short in
     let message : Option (List ℕ) = plan_message reading file (taken_by (ask_of file) s) in (
-      asks-stopped Status file (ask_of input ∷ []) message stop s left taken.1 taken.0,
+      asks-stopped Status file (ask_of input ∷ []) (ask_of input ∷ []) message stop s left taken.1 taken.0,
       reports-reason message (AnswersInput (list_in reading (taken_by (ask_of file) s)) listing input (input_source file input s)) stop out taken.1,
     ))
 

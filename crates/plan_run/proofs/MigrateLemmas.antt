@@ -1,13 +1,13 @@
 -- Migrated plans: from the file of them to what a request has to answer.
-use Rattle.std.proofs.Common.{◌≡◌, ℕ, Bool, true, false, List, [], ◌∷◌, Option, None, Some, IfSome, Result, Ok, Err, inl, inr, refl, sym, ap, ◌∙◌, subst}
+use Rattle.std.proofs.Common.{◌≡◌, ◌≢◌, ℕ, Bool, true, false, List, [], ◌∷◌, Option, None, Some, IfSome, Result, Ok, Err, inl, inr, refl, sym, ap, ◌∙◌, subst}
 use Rattle.std.specs.Global.{Global, Vec}
 use Rattle.std.specs.Prelude.{String, string_bytes}
 use Rattle.std.proofs.KnownBytes.{Appends-nil}
 use Rattle.byte_io.specs.Devices.{IfKnown}
-use Rattle.byte_io.specs.Sources.{AreShort, Ask, AsksPrefix, Created, Sources, after, ask_of, can_create, taken_by}
+use Rattle.byte_io.specs.Sources.{AreShort, Sources, after, ask_of, can_create, taken_by}
 use Rattle.byte_io.proofs.KnownLemmas.{IfKnown-weaker}
 use Rattle.lit_plan.specs.Plans.{Plan}
-use Rattle.plan_pack.specs.Asking.{LeavesMigrate, UnlessStarved, WithPlans, WithoutPlans, migrate_asks}
+use Rattle.plan_pack.specs.Asking.{LeavesMigrate, UnlessStarved}
 use Rattle.plan_pack.specs.Messages.{message_on, unusable}
 use Rattle.plan_pack.specs.Migrated.{IsSourceOf}
 use Rattle.plan_pack.specs.Migrating.{Kept, LeavesMigrated, Migrates, Moved}
@@ -15,6 +15,7 @@ use Rattle.plan_pack.specs.Stops.{Explains, is_refusal}
 use Rattle.plan_pack.specs.Taken.{TakesPlans}
 use Rattle.plan_pack.specs.declared.stop.Stop.{Stop}
 use Rattle.plan_pack.specs.declared.stop.Stop.TheVariants.{OutOfMemory, Refused, WriteFault}
+use Rattle.plan_pack.proofs.AskLemmas.{unstarved}
 use Rattle.plan_pack.proofs.PackLemmas.{same-creatable}
 use Rattle.plan_run.specs.Answers.{AnswersMigrate, CutShort, Migrated, NoPlans, NotMade, refused_with, printed}
 use Rattle.plan_run.specs.Running.{Answers, Reports, Writes}
@@ -23,17 +24,13 @@ use Rattle.plan_run.specs.declared.status.Status.{Status}
 use Rattle.plan_run.specs.declared.status.Status.TheVariants.{Done}
 use Rattle.plan_run.proofs.AnswerLemmas.{reports-silent, reports-text}
 
--- all that was asked for is a prefix of it
-pub leaves-prefix : (input output : List ℕ) (s left : Sources) → LeavesMigrate input output s left → AsksPrefix (migrate_asks input output) s left
-leaves-prefix input output s left (WithoutPlans refusal none read) = record { made = ask_of input ∷ []; rest = Created output ∷ []; parts = refl; after = read }
-leaves-prefix input output s left (WithPlans plans source both) = record { made = migrate_asks input output; rest = []; parts = refl; after = both }
-
-leaves-unless : (r : Result Status Stop) (input output : List ℕ) (s left : Sources) → LeavesMigrate input output s left
-    → UnlessStarved r (LeavesMigrate input output s left) (migrate_asks input output) s left
-leaves-unless (Ok status) input output s left leaves = leaves
-leaves-unless (Err (Refused refusal)) input output s left leaves = leaves
-leaves-unless (Err WriteFault) input output s left leaves = leaves
-leaves-unless (Err OutOfMemory) input output s left leaves = leaves-prefix input output s left leaves
+-- what was asked for, where the answer is written and no memory is wanted
+leaves-unless : (r : Result Status Stop) (input output : List ℕ) (s left : Sources) → r ≢ Err OutOfMemory → LeavesMigrate input output s left
+    → UnlessStarved r (LeavesMigrate input output s left) (ask_of input ∷ []) s left
+leaves-unless (Ok status) input output s left fed leaves = leaves
+leaves-unless (Err (Refused refusal)) input output s left fed leaves = leaves
+leaves-unless (Err WriteFault) input output s left fed leaves = leaves
+leaves-unless (Err OutOfMemory) input output s left fed leaves = absurd (fed refl)
 
 -- a file can be made under a name as before
 as-before : (input output : List ℕ) (s : Sources) (can : Bool) → can_create output (after (ask_of input) s).creatable ≡ can → can_create output s.creatable ≡ can
@@ -49,13 +46,13 @@ reports-moved written has_failed input output s left lines made r old new whole 
 
 pub migrate-printed : {O : Type 0} (written : O → Option (List ℕ)) (has_failed : O → Bool) (input output : List ℕ) (known left : Option Sources) (lines : Vec ℕ) (made : O) (r : Result Status Stop) (old new : Option (List ℕ))
     → has_failed made ≡ false
-    → IfKnown known left (λ s l. AreShort s → UnlessStarved {T = Vec ℕ × O} (Ok (lines, made)) (LeavesMigrate input output s l) (migrate_asks input output) s l × Migrates written input output s l (Ok (lines, made)))
-    → Writes lines.items Done r old new
-    → IfKnown known left (λ s l. AreShort s → UnlessStarved r (LeavesMigrate input output s l) (migrate_asks input output) s l × Reports (AnswersMigrate written has_failed input output s) r old new)
-migrate-printed written has_failed input output known left lines made r old new whole migrates writes =
-    IfKnown-weaker known left _ (λ s l. AreShort s → UnlessStarved r (LeavesMigrate input output s l) (migrate_asks input output) s l × Reports (AnswersMigrate written has_failed input output s) r old new) migrates (λ s l h short.
+    → IfKnown known left (λ s l. AreShort s → UnlessStarved {T = Vec ℕ × O} (Ok (lines, made)) (LeavesMigrate input output s l) (ask_of input ∷ []) s l × Migrates written input output s l (Ok (lines, made)))
+    → Writes lines.items Done r old new → r ≢ Err OutOfMemory
+    → IfKnown known left (λ s l. AreShort s → UnlessStarved r (LeavesMigrate input output s l) (ask_of input ∷ []) s l × Reports (AnswersMigrate written has_failed input output s) r old new)
+migrate-printed written has_failed input output known left lines made r old new whole migrates writes fed =
+    IfKnown-weaker known left _ (λ s l. AreShort s → UnlessStarved r (LeavesMigrate input output s l) (ask_of input ∷ []) s l × Reports (AnswersMigrate written has_failed input output s) r old new) migrates (λ s l h short.
     let done = h short in
-    (leaves-unless r input output s l done.0, reports-moved written has_failed input output s l lines made r old new whole done.1 writes))
+    (leaves-unless r input output s l fed done.0, reports-moved written has_failed input output s l lines made r old new whole done.1 writes))
 
 -- why there are no plans
 reports-kept : {O : Type 0} (written : O → Option (List ℕ)) (has_failed : O → Bool) (stop : Stop) (input output : List ℕ) (s : Sources) (known : Option (List ℕ)) → TakesPlans input (taken_by (ask_of input) s) (Err stop)
@@ -87,34 +84,28 @@ reports-stopped written has_failed input output s left stopped known broken (Kep
 reports-stopped written has_failed input output s left stopped known broken (Moved plans source makes) =
     reports-unmade written has_failed stopped.0 stopped.1 input output s left known plans source makes.0 makes.1 broken
 
--- what holds of a stop holds of it in any answer
-unstarved : (T U P : Type 0) (all : List Ask) (s left : Sources) (stop : Stop) → UnlessStarved {T = T} (Err stop) P all s left → UnlessStarved {T = U} (Err stop) P all s left
-unstarved T U P all s left (Refused refusal) asks = asks
-unstarved T U P all s left WriteFault asks = asks
-unstarved T U P all s left OutOfMemory asks = asks
-
 pub migrate-unwritten : {O : Type 0} (written : O → Option (List ℕ)) (has_failed : O → Bool) (input output : List ℕ) (known left : Option Sources) (stopped : Stop × Option O) (stop : Stop) (out : Option (List ℕ)) → stop ≡ stopped.0
     → IfSome stopped.1 (λ made. has_failed made ≡ is_refusal stopped.0)
-    → IfKnown known left (λ s l. AreShort s → UnlessStarved {T = Vec ℕ × O} (Err stopped.0) (LeavesMigrate input output s l) (migrate_asks input output) s l × Migrates written input output s l (Err stopped))
-    → IfKnown known left (λ s l. AreShort s → UnlessStarved {T = Status} (Err stop) (LeavesMigrate input output s l) (migrate_asks input output) s l × Reports (AnswersMigrate written has_failed input output s) (Err stop) out out)
+    → IfKnown known left (λ s l. AreShort s → UnlessStarved {T = Vec ℕ × O} (Err stopped.0) (LeavesMigrate input output s l) (ask_of input ∷ []) s l × Migrates written input output s l (Err stopped))
+    → IfKnown known left (λ s l. AreShort s → UnlessStarved {T = Status} (Err stop) (LeavesMigrate input output s l) (ask_of input ∷ []) s l × Reports (AnswersMigrate written has_failed input output s) (Err stop) out out)
 migrate-unwritten {O} written has_failed input output known left stopped stop out same broken migrates =
-    IfKnown-weaker known left _ (λ s l. AreShort s → UnlessStarved {T = Status} (Err stop) (LeavesMigrate input output s l) (migrate_asks input output) s l × Reports (AnswersMigrate written has_failed input output s) (Err stop) out out) migrates (λ s l h short.
+    IfKnown-weaker known left _ (λ s l. AreShort s → UnlessStarved {T = Status} (Err stop) (LeavesMigrate input output s l) (ask_of input ∷ []) s l × Reports (AnswersMigrate written has_failed input output s) (Err stop) out out) migrates (λ s l h short.
     let done = h short in (
-      subst (λ x. UnlessStarved {T = Status} (Err x) (LeavesMigrate input output s l) (migrate_asks input output) s l) (sym same) (unstarved (Vec ℕ × O) Status (LeavesMigrate input output s l) (migrate_asks input output) s l stopped.0 done.0),
+      subst (λ x. UnlessStarved {T = Status} (Err x) (LeavesMigrate input output s l) (ask_of input ∷ []) s l) (sym same) (unstarved (Vec ℕ × O) Status (LeavesMigrate input output s l) (ask_of input ∷ []) s l stopped.0 done.0),
       subst (λ x. Reports (AnswersMigrate written has_failed input output s) (Err x) out out) (sym same) (reports-stopped written has_failed input output s l stopped out broken done.1),
     ))
 
 -- the answer and the asks are right for the request
 pub migrate-answers : {O : Type 0} (written : O → Option (List ℕ)) (has_failed : O → Bool) (input output : String Global) (from to : List ℕ) (known left : Option Sources) (r : Result Status Stop) (old new : Option (List ℕ))
     → from ≡ string_bytes input → to ≡ string_bytes output
-    → IfKnown known left (λ s l. AreShort s → UnlessStarved r (LeavesMigrate from to s l) (migrate_asks from to) s l × Reports (AnswersMigrate written has_failed from to s) r old new)
+    → IfKnown known left (λ s l. AreShort s → UnlessStarved r (LeavesMigrate from to s l) (ask_of from ∷ []) s l × Reports (AnswersMigrate written has_failed from to s) r old new)
     → IfKnown known left (λ s l. AreShort s → Answers written has_failed (Migrate input output) s l r old new)
 migrate-answers written has_failed input output from to known left r old new here there answers =
     IfKnown-weaker known left _ (λ s l. AreShort s → Answers written has_failed (Migrate input output) s l r old new) answers (λ s l h short.
     let t = h short in
-    let asks = subst (λ y. UnlessStarved r (LeavesMigrate from y s l) (migrate_asks from y) s l) there t.0 in
+    let asks = subst (λ y. UnlessStarved r (LeavesMigrate from y s l) (ask_of from ∷ []) s l) there t.0 in
     let reports = subst (λ y. Reports (AnswersMigrate written has_failed from y s) r old new) there t.1 in
     record {
-      asks = subst (λ x. UnlessStarved r (LeavesMigrate x (string_bytes output) s l) (migrate_asks x (string_bytes output)) s l) here asks;
+      asks = subst (λ x. UnlessStarved r (LeavesMigrate x (string_bytes output) s l) (ask_of x ∷ []) s l) here asks;
       reports = subst (λ x. Reports (AnswersMigrate written has_failed x (string_bytes output) s) r old new) here reports;
     })

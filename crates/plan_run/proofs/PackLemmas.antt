@@ -4,9 +4,9 @@ use Rattle.std.proofs.KnownBytes.{Appends-nil}
 use Rattle.std.specs.Prelude.{map, string_bytes}
 use Rattle.std.specs.Option.{option_or}
 use Rattle.byte_io.specs.Devices.{IfKnown}
-use Rattle.byte_io.specs.Sources.{AreShort, Sources, can_create}
+use Rattle.byte_io.specs.Sources.{AreShort, Sources, after_all, can_create}
 use Rattle.byte_io.proofs.KnownLemmas.{IfKnown-weaker}
-use Rattle.plan_pack.specs.Asking.{Asks, pack_asks}
+use Rattle.plan_pack.specs.Asking.{AsksAfterReads, pack_asks, pack_reads}
 use Rattle.lit_base.specs.declared.profile.Profile.{Profile}
 use Rattle.plan_pack.specs.Lists.{ArePlansOf, plan_messages}
 use Rattle.plan_pack.specs.Messages.{message_on, unusable}
@@ -21,7 +21,8 @@ use Rattle.plan_run.specs.declared.request.PackRequest.{PackRequest}
 use Rattle.plan_run.specs.declared.request.Request.TheVariants.{Pack}
 use Rattle.plan_run.specs.declared.status.Status.{Status}
 use Rattle.plan_run.specs.declared.status.Status.TheVariants.{Done}
-use Rattle.plan_run.proofs.AnswerLemmas.{asks-any, reports-reason, reports-silent, reports-text, reports-unless}
+use Rattle.plan_pack.proofs.AskLemmas.{unstarved}
+use Rattle.plan_run.proofs.AnswerLemmas.{reports-reason, reports-silent, reports-text, reports-unless}
 
 -- of a plan file that was made
 reports-packed : {O : Type 0} (written : O → Option (List ℕ)) (has_failed : O → Bool) (reading : Reading) (profile : Profile) (names : List (List ℕ)) (output : List ℕ) (s left : Sources) (made : O) (out : Option (List ℕ))
@@ -36,10 +37,10 @@ reports-packed written has_failed reading profile names output s left made out w
 
 pub pack-printed : {O : Type 0} (written : O → Option (List ℕ)) (has_failed : O → Bool) (reading : Reading) (profile : Profile) (names : List (List ℕ)) (output : List ℕ) (known left : Option Sources) (made : O)
     → has_failed made ≡ false
-    → IfKnown known left (λ s l. AreShort s → Asks {T = O} (Ok made) (pack_asks reading names output s) s l × PacksFiles written reading profile names output s l (Ok made))
-    → IfKnown known left (λ s l. AreShort s → Asks {T = Status} (Ok Done) (pack_asks reading names output s) s l × ((out : Option (List ℕ)) → Reports (AnswersPack written has_failed reading profile names output s) (Ok Done) out out))
+    → IfKnown known left (λ s l. AreShort s → AsksAfterReads {T = O} (Ok made) (pack_asks reading names output s) (pack_reads reading names output s) s l × PacksFiles written reading profile names output s l (Ok made))
+    → IfKnown known left (λ s l. AreShort s → AsksAfterReads {T = Status} (Ok Done) (pack_asks reading names output s) (pack_reads reading names output s) s l × ((out : Option (List ℕ)) → Reports (AnswersPack written has_failed reading profile names output s) (Ok Done) out out))
 pack-printed written has_failed reading profile names output known left made whole packs =
-    IfKnown-weaker known left _ (λ s l. AreShort s → Asks {T = Status} (Ok Done) (pack_asks reading names output s) s l × ((out : Option (List ℕ)) → Reports (AnswersPack written has_failed reading profile names output s) (Ok Done) out out)) packs (λ s l h short.
+    IfKnown-weaker known left _ (λ s l. AreShort s → AsksAfterReads {T = Status} (Ok Done) (pack_asks reading names output s) (pack_reads reading names output s) s l × ((out : Option (List ℕ)) → Reports (AnswersPack written has_failed reading profile names output s) (Ok Done) out out)) packs (λ s l h short.
     let p = h short in
     (p.0, λ out. reports-packed written has_failed reading profile names output s l made out whole p.1))
 
@@ -81,18 +82,20 @@ reports-unpacked written has_failed reading profile names output s left stopped 
 
 pub pack-unwritten : {O : Type 0} (written : O → Option (List ℕ)) (has_failed : O → Bool) (reading : Reading) (profile : Profile) (names : List (List ℕ)) (output : List ℕ) (known left : Option Sources) (stopped : Stop × Option O) (stop : Stop)
     → stop ≡ stopped.0 → IfSome stopped.1 (λ made. has_failed made ≡ is_refusal stopped.0)
-    → IfKnown known left (λ s l. AreShort s → Asks {T = O} (Err stopped.0) (pack_asks reading names output s) s l × PacksFiles written reading profile names output s l (Err stopped))
-    → IfKnown known left (λ s l. AreShort s → Asks {T = Status} (Err stop) (pack_asks reading names output s) s l × ((out : Option (List ℕ)) → Reports (AnswersPack written has_failed reading profile names output s) (Err stop) out out))
+    → IfKnown known left (λ s l. AreShort s → AsksAfterReads {T = O} (Err stopped.0) (pack_asks reading names output s) (pack_reads reading names output s) s l × PacksFiles written reading profile names output s l (Err stopped))
+    → IfKnown known left (λ s l. AreShort s → AsksAfterReads {T = Status} (Err stop) (pack_asks reading names output s) (pack_reads reading names output s) s l × ((out : Option (List ℕ)) → Reports (AnswersPack written has_failed reading profile names output s) (Err stop) out out))
 pack-unwritten {O} written has_failed reading profile names output known left stopped stop same broken packs =
-    IfKnown-weaker known left _ (λ s l. AreShort s → Asks {T = Status} (Err stop) (pack_asks reading names output s) s l × ((out : Option (List ℕ)) → Reports (AnswersPack written has_failed reading profile names output s) (Err stop) out out)) packs (λ s l h short.
+    IfKnown-weaker known left _ (λ s l. AreShort s → AsksAfterReads {T = Status} (Err stop) (pack_asks reading names output s) (pack_reads reading names output s) s l × ((out : Option (List ℕ)) → Reports (AnswersPack written has_failed reading profile names output s) (Err stop) out out)) packs (λ s l h short.
     let p = h short in (
-      subst (λ x. Asks {T = Status} (Err x) (pack_asks reading names output s) s l) (sym same) (asks-any O Status (pack_asks reading names output s) s l stopped.0 p.0),
+      subst (λ x. AsksAfterReads {T = Status} (Err x) (pack_asks reading names output s) (pack_reads reading names output s) s l) (sym same)
+          (unstarved O Status (l ≡ after_all (pack_asks reading names output s) s) (pack_reads reading names output s) s l stopped.0 p.0),
       λ out. subst (λ x. Reports (AnswersPack written has_failed reading profile names output s) (Err x) out out) (sym same) (reports-unpacked written has_failed reading profile names output s l stopped out broken p.1),
     ))
 
 -- the answer and the asks are right for the request
 pub pack-answers : {O : Type 0} (written : O → Option (List ℕ)) (has_failed : O → Bool) (request : PackRequest) (known left : Option Sources) (r : Result Status Stop) (out : Option (List ℕ))
-    → IfKnown known left (λ s l. AreShort s → Asks r (pack_asks request.reading (map string_bytes request.files.names.items) (string_bytes request.output) s) s l
+    → IfKnown known left (λ s l. AreShort s → AsksAfterReads r (pack_asks request.reading (map string_bytes request.files.names.items) (string_bytes request.output) s)
+    (pack_reads request.reading (map string_bytes request.files.names.items) (string_bytes request.output) s) s l
     × ((old : Option (List ℕ)) → Reports (AnswersPack written has_failed request.reading request.profile (map string_bytes request.files.names.items) (string_bytes request.output) s) r old old))
     → IfKnown known left (λ s l. AreShort s → Answers written has_failed (Pack request) s l r out out)
 pack-answers written has_failed request known left r out answers =

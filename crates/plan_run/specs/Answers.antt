@@ -8,7 +8,7 @@ use Rattle.lit_base.specs.Costs.{run_cost}
 use Rattle.lit_base.specs.Literals.{Literals, lengths}
 use Rattle.lit_base.specs.Occurrences.{IsHits}
 use Rattle.lit_base.specs.Profiles.{buckets}
-use Rattle.plan_pack.specs.Asking.{LeavesMigrate, migrate_asks, pack_asks, reads_file}
+use Rattle.plan_pack.specs.Asking.{LeavesMigrate, pack_asks, pack_reads, reads_file}
 use Rattle.lit_base.specs.declared.profile.Profile.{Profile}
 use Rattle.lit_cert.specs.Certificates.{CertificateParts}
 use Rattle.lit_cert.specs.Certified.{IsCertified, IsFirstFailure}
@@ -242,36 +242,30 @@ IsAnswerTo written has_failed (ExplainCertificate certificate) s a = AnswersExpl
 IsAnswerTo written has_failed (Migrate input output) s a = AnswersMigrate written has_failed (string_bytes input) (string_bytes output) s a
 IsAnswerTo written has_failed (Scan r) s a = AnswersScan r.reading r.listing (string_bytes r.file) (string_bytes r.input) s a
 
--- the asks, in order: the file of patterns, and the certificate once there is a list
-abbrev pub check_asks : Reading → List ℕ → List ℕ → Sources → List Ask
-check_asks reading file certificate s =
+-- the files that are read, in order: the file of patterns, and the certificate once there is a list
+abbrev pub check_reads : Reading → List ℕ → List ℕ → Sources → List Ask
+check_reads reading file certificate s =
     ask_of file ∷ (if is_some (list_message reading file (taken_by (ask_of file) s)) then [] else Named certificate ∷ [])
 
 -- likewise the file of patterns, and the input once there is a plan
-abbrev pub scan_asks : Reading → List ℕ → List ℕ → Sources → List Ask
-scan_asks reading file input s =
+abbrev pub scan_reads : Reading → List ℕ → List ℕ → Sources → List Ask
+scan_reads reading file input s =
     ask_of file ∷ (if is_some (plan_message reading file (taken_by (ask_of file) s)) then [] else ask_of input ∷ [])
 
--- all that a request may ask for
-abbrev pub asks_of : Request → Sources → List Ask
-asks_of (Plan r) s = ask_of (string_bytes r.file) ∷ []
-asks_of (Check r) s = check_asks r.reading (string_bytes r.file) (string_bytes r.certificate) s
-asks_of (CheckPlan file place) s = ask_of (string_bytes file) ∷ []
-asks_of (Pack r) s = pack_asks r.reading (map string_bytes r.files.names.items) (string_bytes r.output) s
-asks_of (Explain r) s = ask_of (string_bytes r.file) ∷ []
-asks_of (ExplainPlan view file place) s = ask_of (string_bytes file) ∷ []
-asks_of (ExplainCertificate certificate) s = Named (string_bytes certificate) ∷ []
-asks_of (Migrate input output) s = migrate_asks (string_bytes input) (string_bytes output)
-asks_of (Scan r) s = scan_asks r.reading (string_bytes r.file) (string_bytes r.input) s
+-- all that a request may read
+abbrev pub reads_of : Request → Sources → List Ask
+reads_of (Plan r) s = ask_of (string_bytes r.file) ∷ []
+reads_of (Check r) s = check_reads r.reading (string_bytes r.file) (string_bytes r.certificate) s
+reads_of (CheckPlan file place) s = ask_of (string_bytes file) ∷ []
+reads_of (Pack r) s = pack_reads r.reading (map string_bytes r.files.names.items) (string_bytes r.output) s
+reads_of (Explain r) s = ask_of (string_bytes r.file) ∷ []
+reads_of (ExplainPlan view file place) s = ask_of (string_bytes file) ∷ []
+reads_of (ExplainCertificate certificate) s = Named (string_bytes certificate) ∷ []
+reads_of (Migrate input output) s = ask_of (string_bytes input) ∷ []
+reads_of (Scan r) s = scan_reads r.reading (string_bytes r.file) (string_bytes r.input) s
 
--- what a request leaves once it has asked for all
+-- what a request leaves once it has asked for all: two make a file, the others read alone
 abbrev pub IsLeftBy : Request → Sources → Sources → Type 0
-IsLeftBy (Plan r) s left = left ≡ after_all (asks_of (Plan r) s) s
-IsLeftBy (Check r) s left = left ≡ after_all (asks_of (Check r) s) s
-IsLeftBy (CheckPlan file place) s left = left ≡ after_all (asks_of (CheckPlan file place) s) s
-IsLeftBy (Pack r) s left = left ≡ after_all (asks_of (Pack r) s) s
-IsLeftBy (Explain r) s left = left ≡ after_all (asks_of (Explain r) s) s
-IsLeftBy (ExplainPlan view file place) s left = left ≡ after_all (asks_of (ExplainPlan view file place) s) s
-IsLeftBy (ExplainCertificate certificate) s left = left ≡ after_all (asks_of (ExplainCertificate certificate) s) s
+IsLeftBy (Pack r) s left = left ≡ after_all (pack_asks r.reading (map string_bytes r.files.names.items) (string_bytes r.output) s) s
 IsLeftBy (Migrate input output) s left = LeavesMigrate (string_bytes input) (string_bytes output) s left
-IsLeftBy (Scan r) s left = left ≡ after_all (asks_of (Scan r) s) s
+IsLeftBy r s left = left ≡ after_all (reads_of r s) s

@@ -6,9 +6,10 @@ use Rattle.byte_io.specs.Sources.{AsksPrefix, Sources}
 use Rattle.plan_pack.specs.Asking.{UnlessStarved}
 use Rattle.plan_pack.specs.Messages.{message_on}
 use Rattle.plan_pack.specs.Stops.{is_write}
+use Rattle.plan_pack.specs.declared.stop.Refusal.{Refusal}
 use Rattle.plan_pack.specs.declared.stop.Stop.{Stop}
 use Rattle.plan_pack.specs.declared.stop.Stop.TheVariants.{OutOfMemory, Refused, WriteFault}
-use Rattle.plan_run.specs.Answers.{Answer, IsAnswerTo, IsLeftBy, asks_of, refused_with, where_wrong}
+use Rattle.plan_run.specs.Answers.{Answer, IsAnswerTo, IsLeftBy, reads_of, refused_with, where_wrong}
 use Rattle.plan_run.specs.Messages.{out_of_memory, write_fault}
 use Rattle.plan_run.specs.declared.request.Request.{Request}
 use Rattle.plan_run.specs.declared.status.Status.{Status}
@@ -71,15 +72,17 @@ ReportsStop OutOfMemory r old new = (r ≡ Err OutOfMemory) × Appends old new [
 -- What a run answers and writes before any message. If it makes a file, the device shows what was written, and whether
 -- a write failed.
 pub record Answers {O : Type 0} (written : O → Option (List ℕ)) (has_failed : O → Bool) (r : Request) (s left : Sources) (result : Result Status Stop) (out_old out_new : Option (List ℕ)) : Type 0 where
-  pub asks : UnlessStarved result (IsLeftBy r s left) (asks_of r s) s left
+  pub asks : UnlessStarved result (IsLeftBy r s left) (reads_of r s) s left
   pub reports : Reports (IsAnswerTo written has_failed r s) result out_old out_new
 
--- how a run ends: with its answer or for want of memory, where no write to standard output failed, or at a write that
--- did
+-- How a run ends: with its answer, or with a refusal that there was no memory to say; at a write to standard output that
+-- failed; or for want of memory, with no file made.
 pub data Ends {O : Type 0} (written : O → Option (List ℕ)) (has_failed : O → Bool) (r : Request) (s left : Sources) (status : Status) (had_failed out_failed err_failed : Bool) (out_old out_new err_old err_new : Option (List ℕ)) : Type 0 where
   Whole : (a : Answer) → IsAnswerTo written has_failed r s a → out_failed ≡ had_failed → IsLeftBy r s left → a.status ≡ status → Appends out_old out_new a.output
       → Says err_failed err_old err_new a.message → Ends written has_failed r s left status had_failed out_failed err_failed out_old out_new err_old err_new
   Broken : out_failed ≡ true → status ≡ Trouble → IsLeftBy r s left → IsPrefix (IsAnswerTo written has_failed r s) out_old out_new
       → Says err_failed err_old err_new write_fault → Ends written has_failed r s left status had_failed out_failed err_failed out_old out_new err_old err_new
-  Starved : out_failed ≡ had_failed → status ≡ Trouble → AsksPrefix (asks_of r s) s left → IsUnfinished (IsAnswerTo written has_failed r s) out_old out_new
+  Unsaid : (refusal : Refusal) → IsAnswerTo written has_failed r s (refused_with (message_on refusal)) → out_failed ≡ had_failed → IsLeftBy r s left → status ≡ Trouble
+      → Appends out_old out_new [] → Says err_failed err_old err_new out_of_memory → Ends written has_failed r s left status had_failed out_failed err_failed out_old out_new err_old err_new
+  Starved : out_failed ≡ had_failed → status ≡ Trouble → AsksPrefix (reads_of r s) s left → IsUnfinished (IsAnswerTo written has_failed r s) out_old out_new
       → Says err_failed err_old err_new out_of_memory → Ends written has_failed r s left status had_failed out_failed err_failed out_old out_new err_old err_new

@@ -3,7 +3,7 @@ ghost use Rattle.std.specs.Prelude.{◌≡◌, ◌||◌, ◌∷◌, [], IfOk, So
 ghost use Rattle.byte_io.specs.Devices.{IfKnown};
 ghost use Rattle.byte_io.specs.Sources.{AreShort, Content, IsShort, Named, after, ask_of, coming_of, taken_by};
 ghost use Rattle.plan_pack.specs.Asking.{Asks};
-ghost use Rattle.plan_run.specs.Answers.{AnswersCheck, AnswersCheckPlan, IsCheckAnswer, IsPlanAnswerAt, IsVerdict, check_asks};
+ghost use Rattle.plan_run.specs.Answers.{AnswersCheck, AnswersCheckPlan, IsCheckAnswer, IsPlanAnswerAt, IsVerdict, check_reads};
 ghost use Rattle.plan_run.specs.Messages.{not_certified, optimal};
 ghost use Rattle.plan_run.specs.Running.{Reports, is_write_fault};
 
@@ -25,7 +25,7 @@ pub fn answer_check<'a, F: Files, W: ByteOut>(
     out: &mut W,
 ) -> Result<Status, Stop<'a>>
     ensures answer { IfKnown (F.sources files.old) (F.sources files.new) (λ s left. AreShort s
-        → Asks result (check_asks request.now.reading (string_bytes request.now.file) (string_bytes request.now.certificate) s) s left
+        → Asks result (check_reads request.now.reading (string_bytes request.now.file) (string_bytes request.now.certificate) s) s left
         × Reports (AnswersCheck request.now.reading (string_bytes request.now.file) (string_bytes request.now.certificate) s)
         result (W.written out.old) (W.written out.new)) }
     ensures flag { W.has_failed out.new ≡ (W.has_failed out.old || is_write_fault result) }

@@ -19,7 +19,7 @@ mod workers;
 pub use message::say;
 pub use plan_pack::{
     Fault, Notation, PatternFiles, Reading, Refusal, Stop, Unmade, hex_law, migrate, migrate_file,
-    pack, pack_into,
+    pack,
 };
 pub use request::{
     CheckRequest, ExplainRequest, HitLine, Listing, PackRequest, PlanRequest, Request, ScanRequest,

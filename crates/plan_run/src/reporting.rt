@@ -1,6 +1,7 @@
 //! Writing an answer to standard output.
-ghost use Rattle.std.specs.Prelude.{◌≡◌, ◌||◌};
+ghost use Rattle.std.specs.Prelude.{◌≡◌, ◌≢◌, ◌||◌, Err};
 ghost use Rattle.lit_cert.specs.Spelling.{IsShaped, spelling};
+ghost use Rattle.plan_pack.specs.declared.stop.Stop.TheVariants.{OutOfMemory};
 ghost use Rattle.plan_run.specs.Running.{Writes, is_write_fault};
 
 use crate::status::Status;
@@ -24,6 +25,7 @@ pub fn report_bytes<'a, W: ByteOut>(
     out: &mut W,
 ) -> Result<Status, Stop<'a>>
     ensures text { Writes bytes.now status result (W.written out.old) (W.written out.new) }
+    ensures fed { result ≢ Err OutOfMemory }
     ensures flag { W.has_failed out.new ≡ (W.has_failed out.old || is_write_fault result) }
 {
     match write_all(out, bytes) {

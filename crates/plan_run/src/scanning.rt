@@ -3,7 +3,7 @@ ghost use Rattle.std.specs.Prelude.{◌≡◌, ◌||◌, string_bytes};
 ghost use Rattle.byte_io.specs.Devices.{IfKnown};
 ghost use Rattle.byte_io.specs.Sources.{AreShort, after, ask_of, taken_by};
 ghost use Rattle.plan_pack.specs.Asking.{Asks};
-ghost use Rattle.plan_run.specs.Answers.{AnswersInput, AnswersScan, AreHitsReported, scan_asks};
+ghost use Rattle.plan_run.specs.Answers.{AnswersInput, AnswersScan, AreHitsReported, scan_reads};
 ghost use Rattle.plan_run.specs.Running.{Reports, is_write_fault};
 
 use crate::listing::report_hits;
@@ -26,7 +26,7 @@ pub fn answer_scan<'a, R: Threads + Sync, F: Files, W: ByteOut>(
     out: &mut W,
 ) -> Result<Status, Stop<'a>>
     ensures answer { IfKnown (F.sources files.old) (F.sources files.new) (λ s left. AreShort s
-        → Asks result (scan_asks scan.now.reading (string_bytes scan.now.file) (string_bytes scan.now.input) s) s left
+        → Asks result (scan_reads scan.now.reading (string_bytes scan.now.file) (string_bytes scan.now.input) s) s left
         × Reports (AnswersScan scan.now.reading scan.now.listing (string_bytes scan.now.file) (string_bytes scan.now.input) s)
         result (W.written out.old) (W.written out.new)) }
     ensures flag { W.has_failed out.new ≡ (W.has_failed out.old || is_write_fault result) }

@@ -9,8 +9,7 @@ use Rattle.text_automaton.specs.declared.reading.Reading.{Reading}
 use Rattle.text_automaton.specs.declared.reading.TheConstants.{BLOCK}
 use Rattle.text_automaton.specs.declared.tables.TheConstants.{MOST_STATES}
 
--- the literals, and the output of each state: a range of a list. States below `quiet` have no output. Before the
--- automaton is made, no state belongs to a position
+-- the literals, and the output of each state: a range of a list. States below `quiet` have no output
 pub record Outputs : Type 0 where
   pub literals : Literals
   pub outputs : List ℕ
@@ -43,7 +42,8 @@ pub record IsStateAt (a : Outputs) (text : List ℕ) (end state : ℕ) : Type 0 
 abbrev pub AreStatesAfter : Outputs → List ℕ → ℕ → ℕ → List ℕ → Type 0
 AreStatesAfter a text start count states = (at : ℕ) → at < count → IsStateAt a text (start + at + 1) (slice_index states at)
 
--- a reading of a text: the states of some positions are known, and those up to the current position are passed
+-- a reading of a text by an automaton that is made: the states of some positions are known, and those up to the current
+-- position are passed
 pub record IsReading (a : Outputs) (text : List ℕ) (r : Reading) : Type 0 where
   pub made : a.is_made ≡ true
   pub states : AreStatesAfter a text r.start r.count r.states

@@ -12,3 +12,4 @@ mod tables;
 
 pub use automaton::Automaton;
 pub use automaton_ends::AutomatonEnds;
+pub use reading::BLOCK;

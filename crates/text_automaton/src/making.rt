@@ -62,13 +62,15 @@ impl Tables {
     fn grow(&mut self, list: &LitList) -> Option<()> {
         let mut current = [0u16; MAX_LITERALS];
         let mut first = 0;
+        let mut longer = 0;
         for len in 0..MOST_STATES {
             let last = self.parents.len();
             self.copy_fail_rows(first, last);
             if first == last {
                 return Some(());
             }
-            self.lengthen(list, len, last, &mut current)?;
+            longer = first_longer(list, longer, len);
+            self.lengthen(list, longer, len, last, &mut current)?;
             first = last;
         }
         None
@@ -85,15 +87,17 @@ impl Tables {
         }
     }
 
-    /// Adds the states of the prefixes with one byte more than `len`; `last` is the first of them.
+    /// Adds the states of the prefixes with one byte more than `len`; `last` is the first of them. The literals before
+    /// `longer` have no more bytes.
     fn lengthen(
         &mut self,
         list: &LitList,
+        longer: usize,
         len: usize,
         last: usize,
         current: &mut [u16; MAX_LITERALS],
     ) -> Option<()> {
-        for place in 0..list.len() {
+        for place in longer..list.len() {
             let literal = list.get(place);
             if len < literal.len() {
                 let state = self.longer(current[place], literal[len], last)?;
@@ -235,4 +239,14 @@ fn rename(states: &mut [u16], names: &[u16; MOST_STATES]) {
             states[place] = names[state];
         }
     }
+}
+
+/// The first literal from a place on with more bytes than `len`. The list is sorted by length.
+fn first_longer(list: &LitList, from: usize, len: usize) -> usize {
+    for place in from..list.len() {
+        if len < list.get(place).len() {
+            return place;
+        }
+    }
+    list.len()
 }

@@ -10,8 +10,9 @@ use crate::tables::Tables;
 /// other lanes advance. Measured in C: 2.4 to 2.8 ns a byte with one lane, 1.6 with two, 0.9 with four.
 const LANES: usize = 4;
 
-/// The number of positions read at once, if the text has as many.
-pub(crate) const BLOCK: usize = 4096;
+/// The number of positions read at once, if the text has as many: a search may read as many past the end that it
+/// gives. Not varied.
+pub const BLOCK: usize = 4096;
 
 /// Room for the states of a block. A comparison of `STATES` states may read past the last of them.
 pub(crate) const ROOM: usize = BLOCK + STATES;

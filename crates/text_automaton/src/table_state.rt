@@ -9,7 +9,8 @@ pub(crate) enum TableState {
     Missing,
     /// They were made, and are right.
     Made,
-    /// They were requested, and refused: the list has too many prefixes, bytes or outputs for them.
+    /// They were requested, and refused: the list has too many prefixes, bytes or outputs for them, or the check found
+    /// them wrong.
     Refused,
 }
 

@@ -167,6 +167,7 @@ impl EndFinder {
 
     /// Adds hits by the automaton, as `add_hits` does, or by the prefilter if the automaton is not made. It stands
     /// alone because its readings take 8 KiB of the stack.
+    #[inline(never)]
     fn add_by_automaton(
         &mut self,
         compiled: &Compiled,
@@ -186,7 +187,7 @@ impl EndFinder {
             return PrefilterSearch.add_hits(compiled, text, from, at, most, out);
         };
         let stop = add_hits_of(&mut ends, text, from, at, most, out)?;
-        let found = EndRate::of_scan(ends.ends());
+        let found = scanned(text, stop, ends.ends());
         let spent = self.cost_of_automaton(compiled, stop - from, found);
         self.strategy.note(stop - from, spent, found);
         Ok(stop)
@@ -202,35 +203,40 @@ impl EndFinder {
         }
     }
 
-    /// Tunes itself to the text after `from`, if it is due and the text is long enough for a sample. A search for hits
-    /// gathers a shorter text.
+    /// Tunes itself to the text after `from`, if it is due and the text is long enough for a sample. A shorter text is
+    /// gathered.
     #[inline(always)]
     fn tune_if_due(&mut self, compiled: &Compiled, text: &[u8], from: usize, wanted: Wanted)
         requires { from ≤ length text.now }
         ensures { self.new ≡ self.old }
     {
-        match self.strategy.step(text.len() - from, wanted) {
+        match self.strategy.step(text.len() - from) {
             Step::GoOn => (),
-            Step::Gather => self.gather(compiled, text, from),
+            Step::Gather => self.gather(compiled, text, from, wanted),
             Step::Tune => self.tune(compiled, text, from, wanted),
         }
     }
 
-    /// Gathers the bytes of a piece after `from`, unless they are too short, and tunes itself once the sample is full.
+    /// Gathers the bytes of a piece after `from`, unless they are too short, and tunes itself once the sample is full. A
+    /// text in which one end after the other is searched for is gathered at its start alone.
     #[inline(never)]
-    fn gather(&mut self, compiled: &Compiled, text: &[u8], from: usize)
+    fn gather(&mut self, compiled: &Compiled, text: &[u8], from: usize, wanted: Wanted)
         requires { from ≤ length text.now }
         ensures { self.new ≡ self.old }
     {
         let (_, rest) = text.split_at(from);
-        if rest.len() < least_gathered(compiled.index().len()) {
+        let is_gathered = match wanted {
+            Wanted::Hits => false,
+            Wanted::Ends => from > 0,
+        };
+        if is_gathered || rest.len() < least_gathered(compiled.index().len()) {
             return;
         }
         let Some(mut sample) = self.sample.take() else {
             return;
         };
         if sample.add(rest) {
-            self.tune(compiled, sample.text(), 0, Wanted::Hits);
+            self.tune(compiled, sample.text(), 0, wanted);
             sample.clear();
         }
         self.sample = Some(sample);
@@ -344,7 +350,7 @@ impl HitSearch for EndFinder {
             (Engine::Factors, Some(factors)) => {
                 let mut ends = FactorEnds::after(factors, text, from);
                 let stop = add_hits_of(&mut ends, text, from, at, most, out)?;
-                let found = EndRate::of_scan(ends.tally().ends);
+                let found = scanned(text, stop, ends.tally().ends);
                 let spent = factors.cost_of(stop - from, ends.tally(), found);
                 self.strategy.note(stop - from, spent, found);
                 Ok(stop)
@@ -353,7 +359,7 @@ impl HitSearch for EndFinder {
                 let mut ends = ShiftOrEnds::after(&self.shift_or, text, from);
                 let stop = add_hits_of(&mut ends, text, from, at, most, out)?;
                 let tally = ends.tally();
-                let found = EndRate::of_scan(tally.ends);
+                let found = scanned(text, stop, tally.ends);
                 let spent = self
                     .shift_or
                     .cost_of(stop - from, tally.false_positives, found);
@@ -363,7 +369,7 @@ impl HitSearch for EndFinder {
             (Engine::Prefilter, _) | (Engine::Factors, None) => {
                 let mut ends = compiled.prefilter_ends(text, from);
                 let stop = add_hits_of(&mut ends, text, from, at, most, out)?;
-                let found = EndRate::of_scan(ends.tally().ends);
+                let found = scanned(text, stop, ends.tally().ends);
                 let spent = cost_by_prefilter(ends.tally().false_positives, found.ends);
                 self.strategy.note(stop - from, spent, found);
                 Ok(stop)
@@ -419,4 +425,13 @@ fn factors_of(alloc: Global, compiled: &Compiled) -> Result<Option<Factors>, All
 fn passed(text: &[u8], from: usize, found: Option<usize>) -> (usize, EndRate) {
     let count = found.unwrap_or(text.len()).saturating_sub(from);
     (count, EndRate::of_searches(usize::from(found.is_some())))
+}
+
+/// The rate that a scan of a text adds, which found `ends` ends up to `stop`: before the end of the text it had as many
+/// hits as were wanted, and the next scan begins anew.
+fn scanned(text: &[u8], stop: usize, ends: usize) -> EndRate {
+    EndRate {
+        starts: usize::from(stop < text.len()),
+        ..EndRate::of_scan(ends)
+    }
 }

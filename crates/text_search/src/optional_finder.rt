@@ -1,5 +1,5 @@
 //! A finder that is made only once it is likely to pay.
-ghost use Rattle.std.specs.Prelude.{◌≡◌, IfSome};
+ghost use Rattle.std.specs.Prelude.{◌≡◌, IfSome, IsTrue, is_some};
 ghost use Rattle.text_search.specs.Searched.{FindsNext};
 
 use crate::end_finder::EndFinder;
@@ -68,7 +68,10 @@ pub fn next_end_by(
 /// none for a short list, or if memory is short.
 pub fn make_if_long(finder: &mut Option<EndFinder>, alloc: Global, compiled: &Compiled, count: u64)
     requires { IfSome finder.old (λ list. list ≡ compiled.now.literals) }
-    ensures { IfSome finder.new (λ list. list ≡ compiled.now.literals) }
+    ensures plan { IfSome finder.new (λ list. list ≡ compiled.now.literals) }
+
+    // A finder that there is stays.
+    ensures kept { IsTrue (is_some finder.old) → finder.new ≡ finder.old }
 {
     if finder.is_none() && count >= LEAST_WITH_FINDER && has_use(compiled.list().len()) {
         make(finder, alloc, compiled);

@@ -235,14 +235,13 @@ impl Strategy {
 
     /// What to do before the next search, of `at_hand` bytes.
     #[inline(always)]
-    pub fn step(&self, at_hand: usize, wanted: Wanted) -> Step {
+    pub fn step(&self, at_hand: usize) -> Step {
         if !self.is_due() {
-            return Step::GoOn;
-        }
-        match wanted {
-            _ if at_hand >= LEAST_SAMPLE => Step::Tune,
-            Wanted::Hits => Step::Gather,
-            Wanted::Ends => Step::GoOn,
+            Step::GoOn
+        } else if at_hand < LEAST_SAMPLE {
+            Step::Gather
+        } else {
+            Step::Tune
         }
     }
 

@@ -82,9 +82,6 @@ pub(crate) const NEAR_STATES: usize = 1024;
 /// To begin a lane of 1,024 positions, for each byte of the overlap, which it reads first. Measured.
 pub(crate) const LANE_COST: usize = 24;
 
-/// Bytes. The automaton reads at most this many past an end before it gives the end. Not varied.
-pub(crate) const AUTOMATON_BLOCK: usize = 4096;
-
 /// To build the automaton, for each state for which it has room. Measured on lists of 2,000 and 4,096, not varied.
 pub(crate) const STATE_PRICE: usize = 3000;
 

@@ -299,13 +299,19 @@ fn finds_them_in_texts_of_few_bytes(rt: HostRuntime) {
     );
 }
 
-/// Whether a finder that finds nothing in a text, twice, searches by factors then.
-pub(super) fn goes_over_to_factors(compiled: &Compiled, finder: &mut EndFinder, text: &[u8]) -> bool
+/// Whether a finder that finds what the plan alone does in pieces of a text, twice, searches by factors then.
+pub(super) fn goes_over_to_factors(
+    compiled: &Compiled,
+    finder: &mut EndFinder,
+    text: &[u8],
+    size: usize,
+) -> bool
     requires { finder.old ≡ compiled.now.literals }
 {
-    let first = finder.next_end_in(&mut TextSearch::new(compiled, text), 0);
-    let second = finder.next_end_in(&mut TextSearch::new(compiled, text), 0);
-    first.is_none() && second.is_none() && finder.engine() == Engine::Factors
+    let wanted = plain_in(compiled, text, size);
+    let first = tuned_in(compiled, finder, text, size);
+    let second = tuned_in(compiled, finder, text, size);
+    first == wanted && second == wanted && finder.engine() == Engine::Factors
 }
 
 /// Literals whose last bytes do not show which of them a text has.
@@ -320,14 +326,15 @@ fn near_misses(alloc: Global) -> Option<Vec<u8>> {
     Some(text)
 }
 
-/// Whether it does for these literals.
-fn goes_over_at_near_misses(alloc: Global) -> Option<bool> {
+/// Whether it does for these literals, in pieces of this length.
+fn goes_over_at_near_misses(alloc: Global, size: usize) -> Option<bool> {
     let text = near_misses(alloc)?;
     let compiled = plan_of(alloc, &LONG_WORDS)?;
-    agrees(alloc, &compiled, &text, How::NearMisses)
+    agrees(alloc, &compiled, &text, How::NearMisses(size))
 }
 
 #[test]
 fn searches_by_factors_where_false_positives_are_many(rt: HostRuntime) {
-    assert_eq!(rt; goes_over_at_near_misses(rt.alloc()), Some(true));
+    assert_eq!(rt; goes_over_at_near_misses(rt.alloc(), 200_000), Some(true));
+    assert_eq!(rt; goes_over_at_near_misses(rt.alloc(), 4_096), Some(true));
 }

@@ -26,8 +26,8 @@ pub(super) enum How {
     StreamTuned(usize),
     /// With changes of the engine, drawn from a seed.
     Changing(u64),
-    /// End after end in a text of near-misses, which make it leave the plan.
-    NearMisses,
+    /// End after end in a text of near-misses, which make it leave the plan, in pieces of this length.
+    NearMisses(usize),
 }
 
 /// Whether a new finder finds in a text what the plan alone finds.
@@ -53,6 +53,6 @@ fn agrees_by(
         How::Stream => feed_the_same(alloc, compiled, finder, text),
         How::StreamTuned(size) => tunes_in_pieces(alloc, compiled, finder, text, size),
         How::Changing(seed) => changes_the_same(alloc, compiled, finder, text, seed),
-        How::NearMisses => Some(goes_over_to_factors(compiled, finder, text)),
+        How::NearMisses(size) => Some(goes_over_to_factors(compiled, finder, text, size)),
     }
 }

@@ -2,7 +2,6 @@
 use Rattle.plan_pack.specs.Packing.{answer_of}
 use Rattle.plan_pack.proofs.ListLemmas.{open-before-memory}
 use Rattle.plan_pack.proofs.MigrateLemmas.{migrate-had, migrate-stopped}
-use Rattle.plan_pack.proofs.PackLemmas.{stays-empty}
 use Rattle.plan_pack.proofs.migrating.migrate_file.Goals as goal
 
 pub returns-in-Ok-clause-migrated : goal.returns-in-Ok-clause-migrated
@@ -12,10 +11,6 @@ returns-in-Ok-clause-migrated g c =
 
 pub returns-in-Err-clause-migrated : goal.returns-in-Err-clause-migrated
 returns-in-Err-clause-migrated g c = migrate-stopped g.F.Output.ByteOut.written c.args.input.now c.args.output.now _ _ c.in-Err.stop c.in-Err.ensures.plans
-
-pub returns-in-Ok-clause-starved : goal.returns-in-Ok-clause-starved
-returns-in-Ok-clause-starved g c =
-    stays-empty g.F.Output.ByteOut.written (g.F.Opener.sources c.args.files.now) (g.F.Opener.sources c.plans_of.new.files) _ c.migrate_to.result c.in-Ok.ensures.plans c.migrate_to.ensures.starved
 
 pub returns-in-Ok-clause-opens : goal.returns-in-Ok-clause-opens
 returns-in-Ok-clause-opens g c = open-before-memory (g.F.Opener.sources c.args.files.now) c.args.input.now (answer_of c.migrate_to.result) c.in-Ok.ensures.starved

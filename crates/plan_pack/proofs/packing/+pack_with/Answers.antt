@@ -1,11 +1,9 @@
 -- The plan file of the plans so far is made, or that of one plan more, or the next patterns have no plan.
 use Rattle.std.proofs.Common.{◌-◌, List, None, Err, ℕ, drop, length, map, string_bytes, subst, take}
 use Rattle.byte_io.specs.Devices.{IfKnown}
-use Rattle.byte_io.specs.Sources.{AreShort, Created}
-use Rattle.plan_pack.specs.Asking.{Asks, asks_for_plans}
-use Rattle.plan_pack.specs.Packing.{MakesPack, answer_of}
+use Rattle.byte_io.specs.Sources.{AreShort}
 use Rattle.plan_pack.specs.declared.stop.Stop.TheVariants.{OutOfMemory}
-use Rattle.plan_pack.proofs.PackLemmas.{names-first, names-none, pack-made, pack-named-made, pack-named-next, pack-named-starved, pack-named-stopped, pack-next, pack-starved, pack-stopped, packs-of, stays-empty}
+use Rattle.plan_pack.proofs.PackLemmas.{AsksAndMakes, names-first, names-none, pack-made, pack-named-made, pack-named-next, pack-named-starved, pack-named-stopped, pack-next, pack-starved, pack-stopped, packs-of}
 use Rattle.plan_pack.proofs.packing.+pack_with.Goals as goal
 
 pub returns-in-empty-clause-packed : goal.returns-in-empty-clause-packed
@@ -23,7 +21,7 @@ returns-in-Ok-with_plan-clause-packed g t c =
     (names-first names c.name-item.result _ c.as_str.result.now c.in-len1-up.len_at_least c.name-item.is c.as_str.ensures.value)
     (pack-next g.F.Output.ByteOut.written c.args.reading c.args.profile c.args.plans.items c.as_str.result.now rest c.args.output.now _ _ _ c.in-Ok.plan r c.in-Ok.ensures.plan
     (subst (λ ps. IfKnown (g.F.Opener.sources c.plan_of.new.files) (g.F.Opener.sources c.pack_with.new.files)
-    (λ s l. AreShort s → Asks (answer_of r) (asks_for_plans c.args.reading rest (Created c.args.output.now) s) s l × MakesPack g.F.Output.ByteOut.written c.args.reading c.args.profile ps rest c.args.output.now s l r))
+    (λ s l. AreShort s → AsksAndMakes g.F.Output.ByteOut.written c.args.reading c.args.profile ps rest c.args.output.now s l r))
     c.in-Ok-with_plan.ensures c.pack_with.ensures.packed))
 
 pub returns-in-Ok-clause-packed : goal.returns-in-Ok-clause-packed
@@ -60,7 +58,3 @@ returns-clause-named g t c =
     let names = c.args.names.now in
     pack-named-stopped c.args.reading c.args.profile _ c.as_str.result.now (map string_bytes (take (length names - 1) (drop 1 names))) (g.F.Opener.sources c.args.files.now) (g.F.Opener.sources c.plan_of.new.files) c.in-Err.stop
     (names-first names c.name-item.result _ c.as_str.result.now c.in-len1-up.len_at_least c.name-item.is c.as_str.ensures.value) c.in-Err.ensures.plan c.in-Err.ensures.named
-
-pub returns-in-Ok-with_plan-clause-starved : goal.returns-in-Ok-with_plan-clause-starved
-returns-in-Ok-with_plan-clause-starved g t c =
-    stays-empty g.F.Output.ByteOut.written (g.F.Opener.sources c.args.files.now) (g.F.Opener.sources c.plan_of.new.files) _ c.pack_with.result c.in-Ok.ensures.plan c.pack_with.ensures.starved

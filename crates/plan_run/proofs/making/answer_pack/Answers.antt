@@ -4,7 +4,7 @@ use Rattle.std.specs.Global.{Global}
 use Rattle.std.specs.Prelude.{String, map, string_bytes}
 use Rattle.byte_io.specs.Devices.{IfKnown}
 use Rattle.byte_io.specs.Sources.{AreShort}
-use Rattle.plan_pack.specs.Asking.{Asks, pack_asks}
+use Rattle.plan_pack.specs.Asking.{AsksAfterReads, pack_asks, pack_reads}
 use Rattle.plan_pack.specs.Packing.{PacksFiles}
 use Rattle.plan_pack.specs.declared.stop.Stop.{Stop}
 use Rattle.plan_run.proofs.PackLemmas.{pack-printed, pack-unwritten}
@@ -31,6 +31,6 @@ returns-clause-answer g c =
     let written = g.F.Output.ByteOut.written in
     let stopped = c.in-Err.unmade in
     let output = string_bytes c.args.request.now.output in
-    let named = subst (λ (to : List ℕ). IfKnown known left (λ s l. AreShort s → Asks (stopped_with stopped) (pack_asks reading (map string_bytes c.names-names.result.now) to s) s l × PacksFiles written reading profile (map string_bytes c.names-names.result.now) to s l (cut stopped))) c.as_str-output.ensures.value c.in-Err.ensures.packed in
+    let named = subst (λ (to : List ℕ). IfKnown known left (λ s l. AreShort s → AsksAfterReads (stopped_with stopped) (pack_asks reading (map string_bytes c.names-names.result.now) to s) (pack_reads reading (map string_bytes c.names-names.result.now) to s) s l × PacksFiles written reading profile (map string_bytes c.names-names.result.now) to s l (cut stopped))) c.as_str-output.ensures.value c.in-Err.ensures.packed in
     pack-unwritten written g.F.Output.ByteOut.has_failed reading profile (map string_bytes c.args.request.now.files.names.items) output known left stopped c.stop_of.result c.stop_of.ensures c.in-Err.ensures.broken
-    (subst (λ (from : List (String Global)). IfKnown known left (λ s l. AreShort s → Asks (stopped_with stopped) (pack_asks reading (map string_bytes from) output s) s l × PacksFiles written reading profile (map string_bytes from) output s l (cut stopped))) c.names-names.ensures.value named)
+    (subst (λ (from : List (String Global)). IfKnown known left (λ s l. AreShort s → AsksAfterReads (stopped_with stopped) (pack_asks reading (map string_bytes from) output s) (pack_reads reading (map string_bytes from) output s) s l × PacksFiles written reading profile (map string_bytes from) output s l (cut stopped))) c.names-names.ensures.value named)
