@@ -4,11 +4,11 @@ ghost use Rattle.std.specs.Option.{option_copied};
 ghost use Rattle.lit_base.specs.Lines.{ended_lines};
 ghost use Rattle.line_pick.specs.Emitting.{Emitted, answer_of, numbered};
 ghost use Rattle.text_lines.specs.Cutting.{StartsWith};
-ghost use Rattle.line_pick.specs.Matching.{StandsForWhole, picks};
+ghost use Rattle.line_pick.specs.Matching.{IsByPlan, StandsForWhole, picks};
 
 use crate::fault::Fault;
 use crate::halt::Halt;
-use crate::matcher::Matcher;
+use crate::matcher::{LineSearch, Matcher};
 use crate::sink::{Next, Sink};
 use crate::whole_lines::WholeLines;
 use text_lines::{split_next_line, suits_masks};
@@ -63,19 +63,22 @@ fn selects_next(
     }
 }
 
-/// Emits the line if it is selected. `before` lines stand before it.
-pub(crate) fn emit_selected<S: Sink>(
-    matcher: Matcher<'_>,
+/// Emits a line that came in several pieces, if it is selected. `before` lines stand before it.
+pub(crate) fn emit_joined<S: Sink>(
+    search: &mut LineSearch<'_>,
     line: &[u8],
     before: u64,
     sink: &mut S,
 ) -> Result<(), Halt>
-    requires { before + 1 < 2 ^ 64 }
+    requires plan { IsByPlan search.old }
+    requires fits { before + 1 < 2 ^ 64 }
+    ensures same { search.new ≡ search.old }
     ensures emitted { Emitted S.takes sink.old
-        (numbered (picks matcher.entry) before (line.now ∷ [])) (answer_of result) sink.new }
+        (numbered (picks search.old.matcher) before (line.now ∷ [])) (answer_of result) sink.new }
     ensures faults { result ≢ Err (Halt.Failed Fault.StreamTooLong) }
 {
-    emit_if(matcher.selects(line), line, before, sink)
+    let selected = search.selects(line);
+    emit_if(selected, line, before, sink)
 }
 
 /// Emits the line if it is selected, under the number that follows `before`.

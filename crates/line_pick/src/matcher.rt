@@ -1,14 +1,14 @@
 //! Which lines are selected.
-ghost use Rattle.std.specs.Prelude.{◌≡◌, ◌==◌, ◌&&◌, ◌↔◌, All, IsTrue, ◌<◌, ◌≤◌, ℕ, List, false, length, slice_index, true};
+ghost use Rattle.std.specs.Prelude.{◌≡◌, ◌==◌, ◌&&◌, ◌↔◌, All, IfSome, IsTrue, ◌<◌, ◌≤◌, ℕ, List, false, length, slice_index, true};
 ghost use Rattle.lit_base.specs.Lines.{IsOnePiece};
 ghost use Rattle.lit_base.specs.Literals.{lengths};
 ghost use Rattle.lit_base.specs.Selected.{matches};
-ghost use Rattle.line_pick.specs.Matching.{StandingLaw, matched, picks};
+ghost use Rattle.line_pick.specs.Matching.{IsByPlan, StandingLaw, matched, picks};
 
 use list_index::ListIndex;
 use lit_plan::Compiled;
 use memchr::memchr;
-use text_search::{EndFinder, first_end_after};
+use text_search::{EndFinder, TextSearch, first_end_after, next_end_by};
 
 /// Which lines are selected, given the patterns.
 #[derive(Clone, Copy, Debug, PartialEq, Eq)]
@@ -25,6 +25,24 @@ pub struct LineRule {
 pub(crate) struct LineSearch<'p> {
     pub matcher: Matcher<'p>,
     pub finder: Option<EndFinder>,
+}
+
+impl LineSearch<'_> {
+    /// Whether a line that came in several pieces is selected. It may be long, so the finder searches it.
+    pub fn selects(&mut self, line: &[u8]) -> bool
+        requires { IsByPlan self.old }
+        ensures same { self.new ≡ self.old }
+        ensures value { result ≡ picks self.old.matcher line.now }
+    {
+        let matcher = self.matcher;
+        if matcher.rule.whole || matcher.has_empty {
+            return matcher.selects(line);
+        }
+        match matcher.plan {
+            Some(compiled) => has_literal(compiled, &mut self.finder, line) != matcher.rule.invert,
+            None => matcher.rule.invert,
+        }
+    }
 }
 
 /// What lines are compared with: the literals of a plan, the null pattern, and the rule.
@@ -103,6 +121,17 @@ impl Matcher<'_> {
             None => false,
         }
     }
+}
+
+/// Whether a literal of the plan is a slice of the line, by the finder if there is one.
+fn has_literal(compiled: &Compiled, finder: &mut Option<EndFinder>, line: &[u8]) -> bool
+    requires { IfSome finder.old (λ list. list ≡ compiled.now.literals) }
+    ensures same { finder.new ≡ finder.old }
+    ensures value { let list = compiled.now.literals in result ≡ matches list.folding false list.texts line.now }
+{
+    compiled.list().normal_law();
+    let mut search = TextSearch::new(compiled, line);
+    next_end_by(finder, &mut search, 0).is_some()
 }
 
 /// Whether the line as a whole is one of the literals.

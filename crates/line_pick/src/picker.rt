@@ -168,7 +168,7 @@ impl<'p> Picker<'p> {
         if let Some(answer) = self.state.answer() {
             return answer;
         }
-        let answer = answered(self.progress.emit_open(self.search.matcher, sink));
+        let answer = answered(self.progress.emit_open(&mut self.search, sink));
         self.state = State::after_finish(answer);
         answer
     }

@@ -7,7 +7,7 @@ ghost use Rattle.line_pick.specs.Matching.{IsByPlan, picks};
 ghost use Rattle.line_pick.specs.OpenLines.{Decides, IsKept, Keeps, most_kept};
 ghost use Rattle.line_pick.specs.Progresses.{IsSound};
 
-use crate::emitting::emit_selected;
+use crate::emitting::emit_joined;
 use crate::fault::Fault;
 use crate::halt::Halt;
 use crate::matcher::{LineSearch, Matcher};
@@ -84,7 +84,7 @@ impl Progress {
         match split_line(piece) {
             None => self.hold_open(search, piece),
             Some((prefix, after)) => {
-                self.end_line(search.matcher, prefix, sink)?;
+                self.end_line(search, prefix, sink)?;
                 self.take_lines(search, after, sink)
             }
         }
@@ -172,19 +172,21 @@ impl Progress {
     /// Ends the held line with its last bytes.
     fn end_line<S: Sink>(
         &mut self,
-        matcher: Matcher<'_>,
+        search: &mut LineSearch<'_>,
         prefix: &[u8],
         sink: &mut S,
     ) -> Result<(), Halt>
+        requires plan { IsByPlan search.old }
         requires sound { IsSound self.old }
         requires one { IsOnePiece prefix.now }
         requires counted { self.old.lines + vec_len self.old.held + length prefix.now + 1
             ≤ self.old.bytes }
+        ensures same { search.new ≡ search.old }
         ensures sound { IsSound self.new }
         ensures seen { self.new.has_bytes ≡ self.old.has_bytes }
         ensures numbered { self.new.is_numbered ≡ self.old.is_numbered }
         ensures emitted { EmitsOrNone S.takes sink.old
-            (numbered (picks matcher.entry) self.old.lines ((self.old.held.items ++ prefix.now) ∷ []))
+            (numbered (picks search.old.matcher) self.old.lines ((self.old.held.items ++ prefix.now) ∷ []))
             (answer_of result) sink.new }
         ensures held { OnOk result (self.new.held.items ≡ []) }
         ensures lines { OnOk result (self.new.lines ≡ self.old.lines + 1) }
@@ -192,7 +194,7 @@ impl Progress {
         ensures faults { result ≢ Err (Halt.Failed Fault.StreamTooLong) }
     {
         self.hold(prefix)?;
-        emit_selected(matcher, self.held.as_slice(), self.lines, sink)?;
+        emit_joined(search, self.held.as_slice(), self.lines, sink)?;
         self.held.clear();
         self.lines += 1;
         Ok(())
@@ -231,10 +233,12 @@ impl Progress {
     }
 
     /// Emits the open line, if it is a line and selected.
-    pub fn emit_open<S: Sink>(&self, matcher: Matcher<'_>, sink: &mut S) -> Result<(), Halt>
-        requires { IsSound self.now }
+    pub fn emit_open<S: Sink>(&self, search: &mut LineSearch<'_>, sink: &mut S) -> Result<(), Halt>
+        requires plan { IsByPlan search.old }
+        requires sound { IsSound self.now }
+        ensures same { search.new ≡ search.old }
         ensures emitted { Emitted S.takes sink.old
-            (numbered (picks matcher.entry) self.now.lines (last_line self.now.held.items))
+            (numbered (picks search.old.matcher) self.now.lines (last_line self.now.held.items))
             (answer_of result) sink.new }
         ensures faults { result ≢ Err (Halt.Failed Fault.StreamTooLong) }
     {
@@ -242,7 +246,7 @@ impl Progress {
             return Ok(());
         }
         let _bytes = self.bytes;
-        emit_selected(matcher, self.held.as_slice(), self.lines, sink)
+        emit_joined(search, self.held.as_slice(), self.lines, sink)
     }
 }
 

@@ -2,6 +2,7 @@
 ghost use Rattle.std.specs.Prelude.{◌≡◌, IfSome};
 
 use super::*;
+use text_search::Engine;
 
 /// Literals, some of them in the text below, and pieces of the others.
 const WORDS: &[u8] = b"cats\nbirds\nhorse\nhens\n";
@@ -9,10 +10,13 @@ const WORDS: &[u8] = b"cats\nbirds\nhorse\nhens\n";
 /// Lines; two of them hold a literal.
 const LINES: &[u8] = b"a cat or a bird\nbirds\nhouses and hen\nthe horse\n";
 
-/// Their plan.
-fn plan_of_words(alloc: Global) -> Option<Compiled> {
+/// Literals whose last bytes do not show which of them a text has.
+const PHRASES: &[u8] = b"jumps over\nlazy dog\nthe quick\nbrown fox\n";
+
+/// The plan of these literals.
+fn plan_of(alloc: Global, literals: &[u8]) -> Option<Compiled> {
     let mut raw = RawList::new(alloc);
-    raw.add_file_bytes(WORDS).ok()?;
+    raw.add_file_bytes(literals).ok()?;
     let (list, _) = LitList::normal(alloc, &raw, Fold::No).ok()?;
     compile(alloc, list, Profile::Eight).ok()
 }
@@ -98,7 +102,7 @@ fn emitted_by_late_finder(
 
 /// Whether all emit the same, and some lines.
 fn emit_the_same(alloc: Global, rule: LineRule) -> Option<bool> {
-    let compiled = plan_of_words(alloc)?;
+    let compiled = plan_of(alloc, WORDS)?;
     let text = long_text(alloc)?;
     let plain = emitted_by_plan(alloc, &compiled, rule, &text)?;
     let tuned = emitted_by_finder(alloc, &compiled, rule, &text)?;
@@ -117,6 +121,89 @@ fn emits_the_same_whole_lines_as_it_tunes(rt: HostRuntime) {
     assert_eq!(rt; emit_the_same(rt.alloc(), WHOLE), Some(true));
 }
 
+/// Twenty lines of 45,000 bytes and more, every second one with a literal at its end.
+fn long_lines(alloc: Global) -> Option<Vec<u8>> {
+    let mut text = Vec::new(alloc);
+    for number in 0..20 {
+        for _ in 0..3_000 {
+            text.extend_from_slice(b"houses and hen ").ok()?;
+        }
+        if number % 2 == 0 {
+            text.extend_from_slice(b"the horse").ok()?;
+        }
+        text.push(b'\n').ok()?;
+    }
+    Some(text)
+}
+
+/// What a picker emits of a text in pieces of 20,000 bytes.
+fn emitted_in_pieces(alloc: Global, picker: &mut Picker<'_>, text: &[u8]) -> Option<Vec<u8>> {
+    let mut sink = Kept::new(alloc, Mood::Takes);
+    for piece in text.chunks(20_000) {
+        picker.feed(piece, &mut sink).ok()?;
+    }
+    picker.finish(&mut sink).ok()?;
+    Some(sink.text)
+}
+
+/// Whether one with a finder and one by the plan alone emit the same of long lines, and some of them.
+fn join_the_same(alloc: Global, compiled: &Compiled) -> Option<bool> {
+    if !is_in_lines(compiled) {
+        return None;
+    }
+    let text = long_lines(alloc)?;
+    let mut plain = Picker::new(alloc, Some(compiled), false, PARTS);
+    let wanted = emitted_in_pieces(alloc, &mut plain, &text)?;
+    let mut tuned = Picker::new(alloc, Some(compiled), false, PARTS);
+    tuned.tune_by(finder_by(alloc, compiled)?);
+    let got = emitted_in_pieces(alloc, &mut tuned, &text)?;
+    Some(!wanted.is_empty() && wanted.as_slice() == got.as_slice())
+}
+
+/// Whether they do for the words.
+fn join_words_the_same(alloc: Global) -> Option<bool> {
+    let compiled = plan_of(alloc, WORDS)?;
+    join_the_same(alloc, &compiled)
+}
+
+#[test]
+fn emits_the_same_long_lines_in_pieces(rt: HostRuntime) {
+    assert_eq!(rt; join_words_the_same(rt.alloc()), Some(true));
+}
+
+/// Lines that hold the last bytes of one of the phrases, and none of them.
+fn near_misses(alloc: Global) -> Option<Vec<u8>> {
+    let mut text = Vec::new(alloc);
+    for _ in 0..8_000 {
+        text.extend_from_slice(b"....over....over\n").ok()?;
+    }
+    Some(text)
+}
+
+/// Whether a picker's finder leaves the prefilter in such lines.
+fn tunes_by(alloc: Global, compiled: &Compiled) -> Option<bool> {
+    if !is_in_lines(compiled) {
+        return None;
+    }
+    let text = near_misses(alloc)?;
+    let mut picker = Picker::new(alloc, Some(compiled), false, PARTS);
+    picker.tune_by(finder_by(alloc, compiled)?);
+    let emitted = emitted_in_pieces(alloc, &mut picker, &text)?;
+    let finder = picker.into_finder()?;
+    Some(emitted.is_empty() && finder.engine() != Engine::Prefilter)
+}
+
+/// Whether it does for the phrases.
+fn tunes(alloc: Global) -> Option<bool> {
+    let compiled = plan_of(alloc, PHRASES)?;
+    tunes_by(alloc, &compiled)
+}
+
+#[test]
+fn tunes_to_many_false_positives(rt: HostRuntime) {
+    assert_eq!(rt; tunes(rt.alloc()), Some(true));
+}
+
 /// Whether a picker that was made with a finder hands it back.
 fn hands_back_by(alloc: Global, compiled: &Compiled) -> Option<bool> {
     if !is_in_lines(compiled) {
@@ -129,7 +216,7 @@ fn hands_back_by(alloc: Global, compiled: &Compiled) -> Option<bool> {
 
 /// The same by the plan of the tests.
 fn hands_back_a_finder(alloc: Global) -> Option<bool> {
-    let compiled = plan_of_words(alloc)?;
+    let compiled = plan_of(alloc, WORDS)?;
     hands_back_by(alloc, &compiled)
 }
 

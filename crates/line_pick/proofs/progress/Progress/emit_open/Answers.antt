@@ -10,4 +10,4 @@ use Rattle.line_pick.proofs.progress.Progress.emit_open.Goals as goal
 pub returns-then-is_empty-clause-emitted : goal.returns-then-is_empty-clause-emitted
 returns-then-is_empty-clause-emitted g c =
     let empty : [] ≡ c.args.self.now.held.items = grind (arith, common_steps) in
-    Emitted-lines (ap (λ t. numbered (picks c.args.matcher) c.args.self.now.lines (last_line t)) empty) NoneLeft
+    Emitted-lines (ap (λ t. numbered (picks c.args.search.now.matcher) c.args.self.now.lines (last_line t)) empty) NoneLeft

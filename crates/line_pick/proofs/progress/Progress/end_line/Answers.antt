@@ -13,16 +13,16 @@ one_line test {before' = before'} {line = line} e e' = ap (λ n. numbered test n
 pub returns-in_err-hold-clause-emitted : goal.returns-in_err-hold-clause-emitted
 returns-in_err-hold-clause-emitted g c =
     let p = err_from_is_err_and c.from_residual.result c.from_residual.ensures.1 in
-    OrNone-starved (numbered (picks c.args.matcher) c.args.self.now.lines ((c.args.self.now.held.items ++ c.args.prefix.now) ∷ [])) c.from_residual.result
+    OrNone-starved (numbered (picks c.args.search.now.matcher) c.args.self.now.lines ((c.args.self.now.held.items ++ c.args.prefix.now) ∷ [])) c.from_residual.result
     (p.1 ∙ ap (λ h. Err h) p.2 ∙ c.in_err-hold.ensures.starved)
 
-pub returns-in_err-emit_selected-clause-emitted : goal.returns-in_err-emit_selected-clause-emitted
-returns-in_err-emit_selected-clause-emitted g c =
-    let p = err_from_is_err_and c.from_residual-in_err-emit_selected.result c.from_residual-in_err-emit_selected.ensures.1 in
+pub returns-in_err-emit_joined-clause-emitted : goal.returns-in_err-emit_joined-clause-emitted
+returns-in_err-emit_joined-clause-emitted g c =
+    let p = err_from_is_err_and c.from_residual-in_err-emit_joined.result c.from_residual-in_err-emit_joined.ensures.1 in
     let whole : c.as_slice.result.now ≡ c.args.self.now.held.items ++ c.args.prefix.now = c.as_slice.ensures.value ∙ c.in_ok-hold.ensures.ok in
-    rw (p.1, p.2) (Begun (Emitted-lines (one_line (picks c.args.matcher) c.in_ok-hold.ensures.lines whole) c.in_err-emit_selected.ensures.emitted))
+    rw (p.1, p.2) (Begun (Emitted-lines (one_line (picks c.args.search.now.matcher) c.in_ok-hold.ensures.lines whole) c.in_err-emit_joined.ensures.emitted))
 
 pub returns-clause-emitted : goal.returns-clause-emitted
 returns-clause-emitted g c =
     let whole : c.as_slice.result.now ≡ c.args.self.now.held.items ++ c.args.prefix.now = c.as_slice.ensures.value ∙ c.in_ok-hold.ensures.ok in
-    Begun (Emitted-lines (one_line (picks c.args.matcher) c.in_ok-hold.ensures.lines whole) c.in_ok-emit_selected.ensures.emitted)
+    Begun (Emitted-lines (one_line (picks c.args.search.now.matcher) c.in_ok-hold.ensures.lines whole) c.in_ok-emit_joined.ensures.emitted)

@@ -77,14 +77,14 @@ returns-in_ok-end_line-in-Some-clause-emitted g c =
     Emits-rest (sym (open_rest-first cut))
     (Emits-lines (sym (numbered-first test lines (held ++ c.args.piece.now) (held ++ c.in-Some.prefix.now) c.in-Some.after.now cut))
     (Emits-from_all (OrAll-join (Emitted-taken g.S.Sink.takes c.args.self.now.is_numbered (Emitted-from_none c.in_ok-end_line-in-Some.ensures.emitted))
-    (OrAll-lines (ap (λ n. numbered test n (ended_lines c.in-Some.after.now)) c.in_ok-end_line-in-Some.ensures.lines) (OrAll-same g.S.Sink.takes c.in_ok-end_line-in-Some.ensures.numbered c.take_lines-in-Some.ensures.emitted)))))
+    (OrAll-lines (ap (λ n. numbered test n (ended_lines c.in-Some.after.now)) c.in_ok-end_line-in-Some.ensures.lines) (OrAll-same g.S.Sink.takes c.in_ok-end_line-in-Some.ensures.numbered (rw c.in_ok-end_line-in-Some.ensures.same at c.take_lines-in-Some.ensures.emitted))))))
 
 pub returns-in_ok-end_line-in-Some-clause-held : goal.returns-in_ok-end_line-in-Some-clause-held
 returns-in_ok-end_line-in-Some-clause-held g c =
     let held = c.args.self.now.held.items in
     let same = open_rest-first (first-held held c.requires.sound.one c.in-Some.ensures) in
     on_ok_weaker c.take_lines-in-Some.result (λ k. subst (λ has. Keeps has (picks c.args.search.now.matcher) (most_kept (option_copied c.args.search.now.matcher.plan)) c.take_lines-in-Some.new.self.held.items (open_rest (held ++ c.args.piece.now))) c.in_ok-end_line-in-Some.ensures.seen
-    (subst (Keeps c.end_line.new.self.has_bytes (picks c.args.search.now.matcher) (most_kept (option_copied c.args.search.now.matcher.plan)) c.take_lines-in-Some.new.self.held.items) (sym same) k)) c.take_lines-in-Some.ensures.held
+    (subst (Keeps c.end_line.new.self.has_bytes (picks c.args.search.now.matcher) (most_kept (option_copied c.args.search.now.matcher.plan)) c.take_lines-in-Some.new.self.held.items) (sym same) k)) (rw c.in_ok-end_line-in-Some.ensures.same at c.take_lines-in-Some.ensures.held)
 
 pub returns-in_ok-end_line-in-Some-clause-lines : goal.returns-in_ok-end_line-in-Some-clause-lines
 returns-in_ok-end_line-in-Some-clause-lines g c =
