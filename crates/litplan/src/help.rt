@@ -74,7 +74,7 @@ Prints a line `LIT END` for each position at which a pattern ends. LIT is the
 number of the literal, from 0, by length and then by bytes. END is how many
 bytes of INPUT there are up to its end. The lines are ordered by END, then by
 LIT, and are the same for each W. INPUT is held in memory, in a buffer that
-doubles: up to twice its size. Each hit takes 16 bytes more, or up to 24 with
+doubles: up to twice its size. Each hit takes 16 bytes more, or up to 32 with
 several workers. Each worker that has 256 KiB of INPUT takes up to 9.4 MiB
 more. Status 0, or 2 with a message.
 
