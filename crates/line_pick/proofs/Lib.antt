@@ -6,5 +6,6 @@ pub mod Literals
 pub mod NumberLemmas
 pub mod OpenLemmas
 pub mod Patterns
+pub mod SpanLemmas
 pub mod Standing
 pub mod WholeLemmas

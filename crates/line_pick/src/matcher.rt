@@ -5,6 +5,7 @@ ghost use Rattle.lit_base.specs.Literals.{lengths};
 ghost use Rattle.lit_base.specs.Selected.{matches};
 ghost use Rattle.line_pick.specs.Matching.{IsByPlan, StandingLaw, matched, picks};
 
+use crate::tuning::LINE_SPAN;
 use list_index::ListIndex;
 use lit_plan::Compiled;
 use memchr::memchr;
@@ -123,15 +124,25 @@ impl Matcher<'_> {
     }
 }
 
-/// Whether a literal of the plan is a slice of the line, by the finder if there is one.
+/// Whether a literal of the plan is a slice of the line, by the finder if there is one. It searches span by span, since a
+/// finder tunes only where a search begins.
 fn has_literal(compiled: &Compiled, finder: &mut Option<EndFinder>, line: &[u8]) -> bool
     requires { IfSome finder.old (λ list. list ≡ compiled.now.literals) }
     ensures same { finder.new ≡ finder.old }
     ensures value { let list = compiled.now.literals in result ≡ matches list.folding false list.texts line.now }
 {
     compiled.list().normal_law();
-    let mut search = TextSearch::new(compiled, line);
-    next_end_by(finder, &mut search, 0).is_some()
+    let mut place = 0;
+    'spans: while place < line.len() {
+        let stop = line.len().min(place.saturating_add(LINE_SPAN));
+        let (prefix, _) = line.split_at(stop);
+        let mut search = TextSearch::new(compiled, prefix);
+        if next_end_by(finder, &mut search, place).is_some() {
+            return true;
+        }
+        place = stop;
+    }
+    false
 }
 
 /// Whether the line as a whole is one of the literals.

@@ -9,6 +9,10 @@ pub(crate) const HIT_BYTES: usize = 256;
 /// Bytes. The same where lines are short: measured, a byte of them takes four times as long to split.
 pub(crate) const SHORT_LINE_HIT_BYTES: usize = 64;
 
+/// Bytes. A line that came in several pieces is searched by this many at a time: as many as a finder's longest sample.
+/// Not varied.
+pub(crate) const LINE_SPAN: usize = 65536;
+
 // Literals.
 
 /// Literals. Under -x a longer list is not searched for: each line is split and compared, unless lines are short.

@@ -121,16 +121,24 @@ fn emits_the_same_whole_lines_as_it_tunes(rt: HostRuntime) {
     assert_eq!(rt; emit_the_same(rt.alloc(), WHOLE), Some(true));
 }
 
-/// Twenty lines of 45,000 bytes and more, every second one with a literal at its end.
+/// Adds 65,520 bytes without a literal.
+fn add_filling(text: &mut Vec<u8>) -> Option<()> {
+    for _ in 0..4_368 {
+        text.extend_from_slice(b"houses and hen ").ok()?;
+    }
+    Some(())
+}
+
+/// Twenty lines of 131,000 bytes and more. Every second one has a literal that begins before its byte 65,536 and ends after
+/// it.
 fn long_lines(alloc: Global) -> Option<Vec<u8>> {
     let mut text = Vec::new(alloc);
     for number in 0..20 {
-        for _ in 0..3_000 {
-            text.extend_from_slice(b"houses and hen ").ok()?;
-        }
+        add_filling(&mut text)?;
         if number % 2 == 0 {
-            text.extend_from_slice(b"the horse").ok()?;
+            text.extend_from_slice(b"for some the horse").ok()?;
         }
+        add_filling(&mut text)?;
         text.push(b'\n').ok()?;
     }
     Some(text)
