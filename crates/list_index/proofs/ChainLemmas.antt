@@ -4,42 +4,47 @@ use Rattle.std.specs.List.Sorted.{IsNonDecreasing}
 use Rattle.std.proofs.lemmas.Bool.{cases_eq, cases_lt}
 use Rattle.std.proofs.lemmas.List.{length-map}
 use Rattle.std.proofs.lemmas.Option.{get_or_from_slice_get, slice_get_within}
-use Rattle.list_index.specs.Chains.{AreChainsOf, IsFirstKeyed, IsNextWith, Reaches, hash_at, key_width_at}
+use Rattle.list_index.specs.Chains.{AreKeyed, EndsKeyed, IsFirstKeyed, key_width_at}
+use Rattle.list_index.specs.KeyChains.{AreChained, IsNextWith, Reaches, hash_at}
 use Rattle.lit_base.specs.Literals.{Literals, lengths, literal_at}
 use Rattle.lit_base.specs.Occurrences.{Occurs, NoneEnds, IsFirstEnding}
 use Rattle.list_index.specs.Suffixes.{suffix_key, hash_of}
-use Rattle.list_index.specs.declared.suffixes.chains.SuffixChains.{SuffixChains}
+use Rattle.list_index.specs.declared.suffixes.key_chains.KeyChains.{KeyChains}
 use Rattle.lit_base.proofs.LengthLemmas.{length_at}
 use Rattle.list_index.proofs.SuffixLemmas.{AreBytes, key-occurs}
 
-module _ (l : Literals) (text : List ℕ) (end width : ℕ) (chains : SuffixChains) (are : AreChainsOf l chains) (bytes : AreBytes text) (narrow : width ≤ 8) where
-  -- where a literal with a key of this width ends, the text has the key kept of it
-  pub kept_key : (place : ℕ) → key_width_at l place ≡ width → Occurs l text place end → get_or chains.keys.items place 0 ≡ suffix_key l.folding text end width
-  kept_key place keyed occurs =
-      let there = slice_get_within l.texts place occurs.literal occurs.stands in
-      let wide : width ≤ length (literal_at l place) = omega (arith, keyed) in
-      are.keyed place there
-      ∙ ap (suffix_key l.folding (literal_at l place) (length (literal_at l place))) keyed
-      ∙ sym (key-occurs l text place end width bytes narrow wide occurs)
+-- where a literal with a key of this width ends, the text has the key kept of it
+pub kept_key : (l : Literals) (short : KeyChains) → AreKeyed l short → (text : List ℕ) → AreBytes text → (end width : ℕ) → width ≤ 8 → (place : ℕ) → EndsKeyed l text end width place
+    → get_or short.keys.items place 0 ≡ suffix_key l.folding text end width
+kept_key l short are text bytes end width narrow place ends =
+    let there = slice_get_within l.texts place ends.1.literal ends.1.stands in
+    let wide : width ≤ length (literal_at l place) = omega (arith, ends.0) in
+    are.keyed place there
+    ∙ ap (suffix_key l.folding (literal_at l place) (length (literal_at l place))) ends.0
+    ∙ sym (key-occurs l text place end width bytes narrow wide ends.1)
 
-  -- one step along the chain
-  pub reaches_link : (from next : ℕ) → next < length l.texts → (from ≤ next → key_width_at l next ≡ width → ¬ Occurs l text next end) → Reaches l text end width chains from next
-      → Reaches l text end width chains from (get_or chains.links.items next 0)
-  reaches_link from next inside apart old =
-      let key : ℕ = suffix_key l.folding text end width in
-      let step : IsNextWith (hash_at chains.bits chains.keys.items) (length l.texts) (hash_of chains.bits key) (next + 1) (get_or chains.links.items next 0) =
-      subst (λ h. IsNextWith (hash_at chains.bits chains.keys.items) (length l.texts) h (next + 1) (get_or chains.links.items next 0)) (old.has inside) (are.chained.link next (omega arith) inside) in
-      record {
-        within = step.within;
-        passed = λ place low high keyed occurs. elim (cases_lt place next) [
-          | inl before ↦ old.passed place low before keyed occurs
-          | inr after ↦ elim (cases_eq place next) [
-            | inl here ↦ apart (omega (arith, low, here)) (subst (λ p. key_width_at l p ≡ width) here keyed) (subst (λ p. Occurs l text p end) here occurs)
-            | inr later ↦ step.skipped place (omega (arith, after, later)) high (ap (hash_of chains.bits) (kept_key place keyed occurs))
-          ]
-        ];
-        has = step.has;
-      }
+-- a walk begins where a chain does, or after a literal that has the key
+pub reaches_first : (chains : KeyChains) (key : ℕ) (Sought : ℕ → Type 0) → ((place : ℕ) → Sought place → get_or chains.keys.items place 0 ≡ key) → (from next : ℕ) → next ≤ length chains.keys.items
+    → ((i : ℕ) → from ≤ i → i < next → get_or chains.keys.items i 0 ≡ key → ⊥) → (next < length chains.keys.items → hash_at chains.bits chains.keys.items next ≡ hash_of chains.bits key) → Reaches chains key Sought from next
+reaches_first chains key Sought keyed from next within skipped has = record { within = within; passed = λ place low high sought. skipped place low high (keyed place sought); has = has }
+
+-- one step along the chain of a key, where all that are sought have the key
+pub reaches_link : (chains : KeyChains) → AreChained chains → (key : ℕ) (Sought : ℕ → Type 0) → ((place : ℕ) → Sought place → get_or chains.keys.items place 0 ≡ key) → (from next : ℕ) → next < length chains.keys.items → (from ≤ next → ¬ Sought next)
+    → Reaches chains key Sought from next → Reaches chains key Sought from (get_or chains.links.items next 0)
+reaches_link chains are key Sought keyed from next inside apart old =
+    let step : IsNextWith (hash_at chains.bits chains.keys.items) (length chains.keys.items) (hash_of chains.bits key) (next + 1) (get_or chains.links.items next 0) =
+    subst (λ h. IsNextWith (hash_at chains.bits chains.keys.items) (length chains.keys.items) h (next + 1) (get_or chains.links.items next 0)) (old.has inside) (are.chained.link next (omega arith) inside) in
+    record {
+      within = step.within;
+      passed = λ place low high sought. elim (cases_lt place next) [
+        | inl before ↦ old.passed place low before sought
+        | inr after ↦ elim (cases_eq place next) [
+          | inl here ↦ apart (omega (arith, low, here)) (subst Sought here sought)
+          | inr later ↦ step.skipped place (omega (arith, after, later)) high (ap (hash_of chains.bits) (keyed place sought))
+        ]
+      ];
+      has = step.has;
+    }
 
 -- what is no more than each length is no more than the length of the literal at a place
 pub at_least : (l : Literals) (least : ℕ) → All (λ len. least ≤ len) (lengths l) → (place : ℕ) → place < length l.texts → least ≤ length (literal_at l place)

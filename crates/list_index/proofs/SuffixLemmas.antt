@@ -90,6 +90,13 @@ folded_with_case No b l = refl
 folded_with_case Ascii b l =
     (Decides-eqb (bit_or (folded Ascii b) 32) (bit_or b 32)).0 (agree_below_at (λ k. eqb (bit_or (folded Ascii k) 32) (bit_or k 32)) (λ _. true) 256 b refl l)
 
+-- and with the bits of the case of eight letters
+pub folded_with_case_bits : (fold : Fold) (b : ℕ) → b < 256 → bit_or (folded fold b) (case_bits fold) ≡ bit_or b (case_bits fold)
+folded_with_case_bits No b l = refl
+folded_with_case_bits Ascii b l =
+    (Decides-eqb (bit_or (folded Ascii b) 2314885530818453536) (bit_or b 2314885530818453536)).0
+    (agree_below_at (λ k. eqb (bit_or (folded Ascii k) 2314885530818453536) (bit_or k 2314885530818453536)) (λ _. true) 256 b refl l)
+
 folded_small : (fold : Fold) (b : ℕ) → b < 256 → folded fold b < 256
 folded_small No b l = l
 folded_small Ascii b l = grind (arith, nat_tests)

@@ -4,4 +4,6 @@ pub mod Checks
 pub mod EndingCursors
 pub mod EndingViews
 pub mod HashBits
+pub mod KeyChains
+pub mod LongChains
 pub mod Suffixes

@@ -3,6 +3,8 @@ mod chains;
 mod checks;
 mod hash_bits;
 mod key;
+mod key_chains;
+mod long_chains;
 
 ghost use Rattle.std.specs.Prelude.{◌≡◌, ℕ, ◌+◌, ◌-◌, ◌^◌, ◌<◌, ◌≤◌, IfOk, IfSome, MatchOption, length, max};
 ghost use Rattle.std.specs.Int.{bit_at};

@@ -1,25 +1,23 @@
 //! All literals, chained by the hash of their keys.
-ghost use Rattle.std.specs.Prelude.{◌≡◌, ℕ, ◌^◌, ◌<◌, ◌≤◌, ◌↔◌, length, slice_index, IfOk, IsTrue, MatchOption};
-ghost use Rattle.list_index.specs.Chains.{AreChainsOf, IsChained, IsFirstKeyed, NoneKeyedEnds, hash_at, key_width_at, key_at};
+ghost use Rattle.std.specs.Prelude.{◌≡◌, ℕ, ◌<◌, ◌≤◌, ◌↔◌, length, slice_index, IfOk, IsTrue, MatchOption};
+ghost use Rattle.list_index.specs.Chains.{AreChainsOf, IsFirstKeyed, NoneKeyedEnds, key_width_at, key_at};
 ghost use Rattle.lit_base.specs.Occurrences.{Occurs};
-ghost use Rattle.list_index.specs.Suffixes.{hash_of, suffix_key};
+ghost use Rattle.list_index.specs.Suffixes.{suffix_key};
 ghost use Rattle.lit_base.specs.declared.limits.TheConstants.{MAX_LITERALS};
 
-use crate::suffixes::key::{hash_of, key_width, suffix_key};
+use crate::suffixes::key::{key_width, suffix_key};
+use crate::suffixes::key_chains::KeyChains;
+use crate::suffixes::long_chains::LongChains;
 use lit_base::{Fold, LitList};
 use std::alloc::{AllocError, Global};
 
-/// The literals, chained by the hash of their keys. Each chain rises. The number of literals stands for none.
+/// The literals, chained by the hash of their keys.
 #[derive(Debug, Drop)]
 pub(crate) struct SuffixChains {
-    /// How many bits a hash has.
-    pub bits: usize,
-    /// The key of each literal.
-    pub keys: Vec<u64>,
-    /// For each hash the first literal that has it.
-    pub heads: Vec<u16>,
-    /// For each literal the next one with its hash.
-    pub links: Vec<u16>,
+    /// The literals by their keys, of at most eight bytes.
+    pub short: KeyChains,
+    /// The literals by more of their last bytes, in a list that has a long chain.
+    pub long: Option<LongChains>,
 }
 
 impl SuffixChains {
@@ -28,15 +26,13 @@ impl SuffixChains {
         ensures { IfOk result (AreChainsOf list.now) }
     {
         let _count = list.len();
-        let keys = keys_of(alloc, list)?;
-        let bits = table_bits(keys.len());
-        let (heads, links) = chained(alloc, keys.as_slice(), bits)?;
-        Ok(SuffixChains {
-            bits,
-            keys,
-            heads,
-            links,
-        })
+        let short = KeyChains::new(alloc, keys_of(alloc, list)?)?;
+        let long = if short.has_long_chain() {
+            Some(LongChains::new(alloc, list, &short)?)
+        } else {
+            None
+        };
+        Ok(SuffixChains { short, long })
     }
 
     /// The first of the literals from place `from` on that have a key of `width` bytes and end at `end` in the text, if
@@ -60,16 +56,21 @@ impl SuffixChains {
             (NoneKeyedEnds literals.now text.now from end width)
             (λ place. IsFirstKeyed literals.now text.now from end width place) }
     {
-        if self.keys.len() <= from {
+        if literals.len() <= from {
             return None;
         }
+        if let Some(long) = &self.long {
+            if width == 8 {
+                return long.next_keyed(&self.short, literals, text, end, from);
+            }
+        }
         let key = suffix_key(literals.fold(), text, end, width);
-        let mut next = self.first_with(key, from);
-        while next < self.keys.len() {
+        let mut next = self.short.first_with(key, from);
+        while next < literals.len() {
             if from <= next && self.ends_with_key(literals, text, end, key, width, next) {
                 return Some(next);
             }
-            next = self.links[next] as usize;
+            next = self.short.links[next] as usize;
         }
         None
     }
@@ -93,7 +94,7 @@ impl SuffixChains {
         requires within { place < length literals.now.texts }
         ensures { IsTrue result ↔ ((key_width_at literals.now place ≡ width) × Occurs literals.now text.now place end) }
     {
-        if self.keys[place] != key {
+        if self.short.keys[place] != key {
             return false;
         }
         let literal = literals.get(place);
@@ -104,25 +105,6 @@ impl SuffixChains {
             return true;
         }
         literals.ends_at(place, text, end)
-    }
-
-    /// The first literal from `from` on whose hash is the key's, or a literal of the same chain before it. It continues
-    /// from the literal before `from`, if that has the key, and otherwise begins at the head of the chain.
-    #[inline]
-    fn first_with(&self, key: u64, from: usize) -> usize
-        requires hashed { (0 < self.now.bits) × (self.now.bits ≤ 32) }
-        requires heads { length self.now.heads.items ≡ 2 ^ self.now.bits }
-        requires links { length self.now.links.items ≡ length self.now.keys.items }
-        requires within { from ≤ length self.now.keys.items }
-        requires chained { IsChained (hash_at self.now.bits self.now.keys.items) (length self.now.keys.items) 0 self.now.heads.items self.now.links.items }
-        ensures within { result ≤ length self.now.keys.items }
-        ensures skipped { (i : ℕ) → from ≤ i → i < result → slice_index self.now.keys.items i ≡ key → ⊥ }
-        ensures has { result < length self.now.keys.items → hash_at self.now.bits self.now.keys.items result ≡ hash_of self.now.bits key }
-    {
-        if 0 < from && self.keys[from - 1] == key {
-            return self.links[from - 1] as usize;
-        }
-        self.heads[hash_of(self.bits, key)] as usize
     }
 }
 
@@ -138,34 +120,4 @@ fn keys_of(alloc: Global, list: &LitList) -> Result<Vec<u64>, AllocError>
         keys.push(suffix_key(list.fold(), literal, literal.len(), width))?;
     }
     Ok(keys)
-}
-
-/// The number of bits of a hash for `count` literals: there are more than four times as many hashes.
-fn table_bits(count: usize) -> usize
-    requires { count ≤ MAX_LITERALS }
-    ensures some { 0 < result }
-    ensures few { result ≤ 32 }
-{
-    (4 * count + 1).ilog2() as usize + 1
-}
-
-/// The heads and links of the literals with these keys, made from the last to the first.
-fn chained(alloc: Global, keys: &[u64], bits: usize) -> Result<(Vec<u16>, Vec<u16>), AllocError>
-    requires hashed { (0 < bits) × (bits ≤ 32) }
-    requires few { length keys.now ≤ MAX_LITERALS }
-    ensures heads { IfOk result (λ tables. length tables.0.items ≡ 2 ^ bits) }
-    ensures links { IfOk result (λ tables. length tables.1.items ≡ length keys.now) }
-    ensures chained { IfOk result (λ tables. IsChained (hash_at bits keys.now) (length keys.now) 0 tables.0.items tables.1.items) }
-{
-    let count = keys.len();
-    let mut heads = Vec::from_elem(alloc, count as u16, 1 << bits)?;
-    let mut links = Vec::from_elem(alloc, count as u16, count)?;
-    let mut low = count;
-    while 0 < low {
-        low -= 1;
-        let hash = hash_of(bits, keys[low]);
-        links[low] = heads[hash];
-        heads[hash] = low as u16;
-    }
-    Ok((heads, links))
 }

@@ -13,12 +13,12 @@ use Rattle.list_index.proofs.suffixes.chains.SuffixChains.ends_with_key.Goals as
 pub returns-then-index-key : goal.returns-then-index-key
 returns-then-index-key c =
     let bytes : AreBytes c.args.text.now = are_bytes c.args.text.now c.type_inv.text in
-    let inside : c.args.place < length c.args.self.now.keys.items = omega (arith, c.requires.within, c.requires.of.keys_len) in
-    let read : c.index.result.now ≡ get_or c.args.self.now.keys.items c.args.place 0 =
-    get_or_read c.args.self.now.keys.items c.args.place c.index.result.now inside c.index.ensures 0 in (
+    let inside : c.args.place < length c.args.self.now.short.keys.items = omega (arith, c.requires.within, c.requires.of.short.len) in
+    let read : c.index.result.now ≡ get_or c.args.self.now.short.keys.items c.args.place 0 =
+    get_or_read c.args.self.now.short.keys.items c.args.place c.index.result.now inside c.index.ensures 0 in (
       λ no. (cc),
       λ both. absurd (c.if-index-key.true (
-          read ∙ kept_key c.args.literals.now c.args.text.now c.args.end c.args.width c.args.self.now c.requires.of bytes c.requires.narrow c.args.place both.0 both.1 ∙ sym c.requires.key
+          read ∙ kept_key c.args.literals.now c.args.self.now.short c.requires.of.short c.args.text.now bytes c.args.end c.args.width c.requires.narrow c.args.place both ∙ sym c.requires.key
           )),
     )
 
@@ -32,9 +32,9 @@ returns-then-eq c =
     let bytes : AreBytes (literal_at l place) = subst AreBytes literal (are_bytes c.get-literal.result.now fits) in
     let len : length (literal_at l place) ≡ c.args.width = ap length (sym literal) ∙ c.if-literal-width.true in
     let keyed : key_width_at l place ≡ c.args.width = omega (arith, len, c.requires.narrow) in
-    let inside : place < length c.args.self.now.keys.items = omega (arith, c.requires.within, c.requires.of.keys_len) in
-    let read : c.index.result.now ≡ get_or c.args.self.now.keys.items place 0 = get_or_read c.args.self.now.keys.items place c.index.result.now inside c.index.ensures 0 in
+    let inside : place < length c.args.self.now.short.keys.items = omega (arith, c.requires.within, c.requires.of.short.len) in
+    let read : c.index.result.now ≡ get_or c.args.self.now.short.keys.items place 0 = get_or_read c.args.self.now.short.keys.items place c.index.result.now inside c.index.ensures 0 in
     let key : suffix_key l.folding c.args.text.now c.args.end c.args.width ≡ suffix_key l.folding (literal_at l place) (length (literal_at l place)) c.args.width =
-    sym c.requires.key ∙ sym c.if-index-key.false ∙ read ∙ c.requires.of.keyed place c.requires.within ∙ ap (suffix_key l.folding (literal_at l place) (length (literal_at l place))) keyed in
+    sym c.requires.key ∙ sym c.if-index-key.false ∙ read ∙ c.requires.of.short.keyed place c.requires.within ∙ ap (suffix_key l.folding (literal_at l place) (length (literal_at l place))) keyed in
     let occurs = occurs-key l c.args.text.now place c.args.end c.args.width (are_bytes c.args.text.now c.type_inv.text) bytes case c.requires.within len c.requires.narrow c.requires.room c.requires.inside key in
     (λ yes. (keyed, occurs), λ both. refl)
