@@ -74,7 +74,7 @@ fn count_sample(counts: &mut Vec<u16>, case_bits: u64, sample: &[u8])
     requires { vec_len counts.old ≡ 2 ^ HASH_BITS }
     ensures { vec_len counts.new ≡ vec_len counts.old }
 {
-    for end in 8..sample.len() {
+    for end in 8..=sample.len() {
         let key = masked_key(last_word(sample, end), MASKED, case_bits);
         let number = hash_of(HASH_BITS, key);
         counts[number] = counts[number].saturating_add(1);

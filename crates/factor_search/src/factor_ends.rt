@@ -9,6 +9,7 @@ ghost use Rattle.factor_search.specs.declared.factor_ends.TheConstants.{REACH};
 use crate::factors::Factors;
 use crate::probing::{BLOCK, next_pending};
 use crate::widths::OFFSETS;
+use lane_filter::{below_bit, split_lowest};
 use std::alloc::AllocError;
 use std::marker::Model;
 use text_ends::{EndWalk, Hit, Tally, add_hits_at};
@@ -108,11 +109,9 @@ impl Pending {
         ensures first { IfSome result (λ found. IsFirstEnding factors.now.literals text.now 0 found.0 found.1) }
     {
         let index = factors.index();
-        let mut back = 0;
         let mut rest = self.hash_bits;
         while rest != 0 {
-            let unmarked = rest.trailing_zeros() as usize;
-            back += unmarked;
+            let (back, others) = split_lowest(rest);
             if back >= self.count {
                 return None;
             }
@@ -120,8 +119,7 @@ impl Pending {
             if let Some(first) = index.next_ending(text, end, 0) {
                 return Some((end, first));
             }
-            back += 1;
-            rest = rest >> unmarked >> 1;
+            rest = others;
         }
         None
     }
@@ -146,7 +144,7 @@ impl Pending {
             hash_bits,
         };
         let rest = block.but_first(from.saturating_sub(seen));
-        tally.pending(rest.hash_bits);
+        tally.pending(below_bit(rest.hash_bits, rest.count));
         rest
     }
 }

@@ -6,7 +6,7 @@ use Rattle.byte_lanes.specs.declared.all_of.AllOf.{AllOf}
 use Rattle.lane_filter.specs.RareBytes.{IsEndOfByte, IsRareByteOf}
 use Rattle.lane_filter.specs.declared.rare_byte.RareByte.{RareByte}
 
--- two bytes, the rarer first
+-- two bytes
 abbrev pub BytePair : Type 0
 BytePair = AllOf RareByte RareByte
 

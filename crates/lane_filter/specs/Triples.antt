@@ -7,7 +7,7 @@ use Rattle.lane_filter.specs.Pairs.{BytePair, IsOneOf, IsPairEnd, IsPairOf}
 use Rattle.lane_filter.specs.RareBytes.{IsEndOfByte, IsRareByteOf}
 use Rattle.lane_filter.specs.declared.rare_byte.RareByte.{RareByte}
 
--- the rarest byte, and two more
+-- one byte, and two more
 abbrev pub ByteTriple : Type 0
 ByteTriple = AllOf RareByte BytePair
 

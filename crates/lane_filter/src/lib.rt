@@ -12,7 +12,9 @@ mod prefilter;
 mod rare_byte;
 mod triple;
 
-pub use byte_lanes::{AllOf, AnyOf, EndTest, Nibbles, any_set, filter, from_bit, split_lowest};
+pub use byte_lanes::{
+    AllOf, AnyOf, EndTest, Nibbles, any_set, below_bit, filter, from_bit, split_lowest,
+};
 pub use candidates::Candidates;
 pub use exact::{ByteTest, Exact};
 pub use pair::{BytePair, pair_of};

@@ -12,7 +12,7 @@ use memchr::arch::all::packedpair::{DefaultFrequencyRank, HeuristicFrequencyRank
 /// tested one by one.
 pub(crate) const CHOSEN_FROM: usize = 256;
 
-/// Two bytes of a literal, the rarer first. They are one if it has no other.
+/// Two bytes of a literal, the first of them as rare as any. They are one if it has no other.
 pub type BytePair = AllOf<RareByte, RareByte>;
 
 /// The two rarest of the last bytes of the literal at a place, by their frequency in usual text. They stand at two

@@ -14,7 +14,7 @@ use std::simd::prelude::*;
 #[derive(Clone, Copy, Debug, PartialEq, Eq)]
 pub struct RareByte {
     byte: u8,
-    /// The bit of a letter's case, or 0 if case counts.
+    /// The bit of case of a letter whose case does not count, otherwise 0.
     case_bit: u8,
     /// How many bytes stand between it and the end.
     pub(crate) after: u8,
@@ -101,7 +101,7 @@ impl ByteTest for RareByte {
     }
 }
 
-/// The bit of a folded byte's case: 32 for a letter, or 0 if case counts.
+/// The bit of case of a folded byte: 32 for a letter whose case does not count, otherwise 0.
 fn case_bit(fold: Fold, byte: u8) -> u8
     ensures { result ≡ case_bit fold byte }
 {

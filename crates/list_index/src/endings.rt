@@ -10,7 +10,7 @@ use std::marker::Model;
 /// The literals that end at one position of a text, in order, from some place of the list on. A contract sees the
 /// literals, the text, that position, and the place of the list from which the search continues.
 ///
-/// The last bytes of the text there are read once for all of them.
+/// Which key widths they may have is looked up once for all of them.
 #[derive(Drop)]
 pub struct Endings<'a> {
     list: &'a ListIndex,

@@ -93,7 +93,7 @@ impl Compiled {
         &self.index
     }
 
-    /// A share of them.
+    /// The same tables for one more owner. `Err` if memory is short.
     pub fn shared_index(&self) -> Result<Arc<ListIndex>, AllocError>
         ensures { IfOk result (λ index. index.value ≡ self.now.literals) }
     {

@@ -2,10 +2,10 @@
 use Rattle.std.proofs.Common.{◌≡◌, ◌↔◌, ℕ, zero, suc, ◌+◌, ◌-◌, ◌*◌, ◌/◌, ◌%◌, ◌^◌, ◌<◌, ◌≤◌, ◌++◌, List, [], ◌∷◌, Option, None, Some, get_or, length, replicate, inl, inr, sym, ap, ◌∙◌, subst, arith, shr-shr, w64}
 use Rattle.std.specs.Int.{bit_at, bit_not}
 use Rattle.std.specs.List.{slice_index, slice_range}
-use Rattle.std.specs.Int.RustNames.{bit_or}
-use Rattle.std.proofs.lemmas.Bool.{cases_lt}
-use Rattle.std.proofs.lemmas.Nat.Bits.{bit_at_above, bit_at_cat_high, bit_at_cat_low, bit_at_not, bit_at_ones, bit_at_or, bit_at-zero}
-use Rattle.std.proofs.lemmas.Nat.{or_shr, pow_pos}
+use Rattle.std.specs.Int.RustNames.{bit_and, bit_or}
+use Rattle.std.proofs.lemmas.Bool.{cases_eq, cases_lt}
+use Rattle.std.proofs.lemmas.Nat.Bits.{bit_at_above, bit_at_and, bit_at-lt, bit_at_cat_high, bit_at_cat_low, bit_at_not, bit_at_ones, bit_at_or, bit_at-zero, same_from_bits}
+use Rattle.std.proofs.lemmas.Nat.{and_le_l, or_shr, pow_pos}
 use Rattle.std.proofs.lemmas.Option.{slice_get_within}
 use Rattle.std.specs.Simd.Lanes.{Each1}
 use Rattle.std.proofs.Common.{Fits}
@@ -201,6 +201,40 @@ others_left b text from at unruled carried low rest inside are split none = reco
       ];
   carried = are.carried;
 }
+
+-- and where no literal at all ends there, the bits of later positions
+pub later_left : (b : Bucketing) (text : List ℕ) (from at unruled carried low rest after : ℕ) → at + 7 ≤ length text → AreProbes b text from (record { at = at; unruled = unruled; carried = carried }) → SplitsLowest unruled low rest
+    → ((k : ℕ) → (bit_at after k ≡ 1) ↔ ((8 * (low / 8) + 8 ≤ k) × (bit_at rest k ≡ 1))) → NoneEnds b.literals text 0 (at + low / 8) → AreProbes b text from (record { at = at; unruled = after; carried = carried })
+later_left b text from at unruled carried low rest after inside are split further none = record {
+  some = are.some;
+  near = are.near;
+  inside = λ _. inside;
+  within = are.within;
+  later = λ bit set. are.later bit ((split.others bit).0 ((further bit).0 set).1).1;
+  none = are.none;
+  unruled = λ place ahead near past occurs.
+      let bit : ℕ = 8 * ahead + bucket_at b.buckets place in
+      let set : bit_at unruled bit ≡ 1 = are.unruled place ahead near past occurs in
+      elim (cases_lt (8 * (low / 8) + 7) bit) [
+        | inl above ↦ (further bit).1 (omega (arith, above), (split.others bit).1 (omega (arith, above), set))
+        | inr upto ↦ elim (cases_lt bit low) [
+          | inl below ↦ absurd (omega (arith, split.lowest bit below, set))
+          | inr from ↦
+              let there : at + ahead ≡ at + low / 8 = omega (arith, upto, from, few_buckets b.buckets place) in
+              absurd (none place (omega arith) (subst (Occurs b.literals text place) there occurs))
+        ]
+      ];
+  carried = are.carried;
+}
+
+-- a number with no bit that another lacks is no greater
+pub no_more_bits : (n other : ℕ) → ((k : ℕ) → bit_at n k ≡ 1 → bit_at other k ≡ 1) → n ≤ other
+no_more_bits n other within =
+    let both : n ≡ bit_and other n = same_from_bits n (bit_and other n) (λ k. elim (cases_eq (bit_at n k) 1) [
+      | inl set ↦ omega (arith, set, within k set, bit_at_and other n k)
+      | inr unset ↦ omega (arith, unset, bit_at-lt n k, bit_at_and other n k)
+    ]) in
+    omega (arith, both, and_le_l other n)
 
 -- an end of a literal among the eight positions has a bit
 left_at : (b : Bucketing) (text : List ℕ) (from end : ℕ) (probes : Probes) → AreProbes b text from probes → from < end → probes.at ≤ end → end ≤ probes.at + 7

@@ -449,7 +449,7 @@ impl ShiftOr {
     }
 
     /// The first of eight ends that probes did not rule out and at which some literal ends, with the first such
-    /// literal.
+    /// literal. Each end is looked up once at most, whatever buckets may end there.
     #[inline(always)]
     fn first_verified(
         &self,
@@ -466,18 +466,22 @@ impl ShiftOr {
         'ends: while unruled != 0 {
             let (bit, others) = split_lowest(unruled);
             let end = probes.at + bit / 8;
+            let mut left = others;
             if self.may_end(text, end, bit % 8) {
+                left = bits_after(others, bit / 8);
                 if let Some(first) = self.index.next_ending(text, end, 0) {
-                    let unruled = bits_after(others, bit / 8);
                     return Some(Verified {
                         end,
                         first,
-                        probes: Probes { unruled, ..probes },
+                        probes: Probes {
+                            unruled: left,
+                            ..probes
+                        },
                     });
                 }
             }
             *false_positives = false_positives.saturating_add(1);
-            unruled = others;
+            unruled = left;
         }
         None
     }

@@ -18,6 +18,35 @@ const LONG: [&[u8]; 5] = [
     b"aabcdefgha",
 ];
 
+/// More literals with the same last eight bytes than a short chain has, one of fewer, and some with the same last 64.
+const ALIKE: [&[u8]; 25] = [
+    b"fgha",
+    b"bcdefgha",
+    b"abcdefgha",
+    b"cbcdefgha",
+    b"dbcdefgha",
+    b"ebcdefgha",
+    b"fbcdefgha",
+    b"gbcdefgha",
+    b"hbcdefgha",
+    b"ibcdefgha",
+    b"jbcdefgha",
+    b"kbcdefgha",
+    b"lbcdefgha",
+    b"mbcdefgha",
+    b"nbcdefgha",
+    b"obcdefgha",
+    b"pbcdefgha",
+    b"qbcdefgha",
+    b"aabcdefgha",
+    b"abbcdefgha",
+    b"qqaabcdefgha",
+    b"xxxxxxxxxxxxxxxxxxxxxxxxxxxxxxxxxxxxxxxxxxxxxxxxxxxxxxxxxxxxbcdefgha",
+    b"1xxxxxxxxxxxxxxxxxxxxxxxxxxxxxxxxxxxxxxxxxxxxxxxxxxxxxxxxxxxxbcdefgha",
+    b"21xxxxxxxxxxxxxxxxxxxxxxxxxxxxxxxxxxxxxxxxxxxxxxxxxxxxxxxxxxxxbcdefgha",
+    b"3xxxxxxxxxxxxxxxxxxxxxxxxxxxxxxxxxxxxxxxxxxxxxxxxxxxxxxxxxxxxbcdefgha",
+];
+
 /// Some literals, and then the remaining ones, at most `most`.
 fn with_rest(first: Vec<usize>, endings: &mut Endings, most: usize) -> Option<Vec<usize>> {
     let mut places = first;
@@ -124,6 +153,15 @@ fn gives_all_that_end_at_each_place(rt: HostRuntime) {
     assert_none_differ(&rt, &SHORT, b"aaa.cbaaa.cBAaA");
     assert_none_differ(&rt, &LONG, b"ha.aabcdefgha.cbcdefghA.ccbcdefgha");
     assert_none_differ(&rt, &[b"ba"], b"cba.Ba");
+}
+
+#[test]
+fn gives_all_of_many_that_end_alike(rt: HostRuntime) {
+    assert_none_differ(
+        &rt,
+        &ALIKE,
+        b"a.fgha.bcdefgha.zbcdefgha.aaBcdefgha.qqaabcdefgha.q21xxxxxxxxxxxxxxxxxxxxxxxxxxxxxxxxxxxxxxxxxxxxxxxxxxxxxxxxxxxxbcdefghA.33xxxxxxxxxxxxxxxxxxxxxxxxxxxxxxxxxxxxxxxxxxxxxxxxxxxxxxxxxxxxbcdefgha",
+    );
 }
 
 /// Whether the literals that end with a text of three bytes stand at these places.
