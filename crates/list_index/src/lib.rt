@@ -6,6 +6,7 @@ mod alone;
 mod endings;
 mod index;
 mod suffixes;
+mod tuning;
 
 pub use endings::Endings;
 pub use index::ListIndex;

@@ -5,10 +5,8 @@ ghost use Rattle.list_index.specs.Suffixes.{hash_of};
 ghost use Rattle.lit_base.specs.declared.limits.TheConstants.{MAX_LITERALS};
 
 use crate::suffixes::key::hash_of;
+use crate::tuning::LONG_CHAIN;
 use std::alloc::{AllocError, Global};
-
-/// A chain of more places than these is long.
-const LONG_CHAIN: usize = 16;
 
 /// The places of a list, chained by the hashes of their keys. Each chain rises. The number of places stands for none.
 #[derive(Debug, Drop)]
