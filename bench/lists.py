@@ -114,6 +114,21 @@ def spoilt_block(literals, seed):
     return block
 
 
+def address(rng):
+    """A mail address, at the same domain as all others."""
+    return ("%s.%s%d@mail.example.com" % (word(rng), word(rng), rng.randint(1, 99))).encode()
+
+
+def mail_block(seed, size):
+    """About `size` bytes of lines with one address each."""
+    rng = random.Random(seed)
+    lines, total = [], 0
+    while total < size:
+        lines.append(b"%08x: from=<%s>, size=%d, nrcpt=1 (queue active)" % (rng.getrandbits(32), address(rng), rng.randint(300, 99999)))
+        total += len(lines[-1]) + 1
+    return b"\n".join(lines) + b"\n"
+
+
 class Text:
     """A text in a file, and what literals are drawn from: a megabyte of it, from sixteen places all over the file."""
 
@@ -318,6 +333,15 @@ class Searches:
             for options in ([], ["-i"]):
                 yield self.list_row("spoilt literals", " ".join(["spoilt: %d" % count] + options), options, path, literals)
 
+    def alike(self, size):
+        """Addresses of one domain, in lines with others: all of them end alike, and hardly one occurs."""
+        path = self.path("mail")
+        fill(path, size, lambda number, length: mail_block(100 * self.seed + number, length))
+        for count in FEWER + LONG[1:]:
+            for options in ([], ["-i"]):
+                literals = draw(self.rng, count, address, lambda literal: True)
+                yield self.list_row("addresses of one domain", " ".join(["addresses: %d" % count] + options), options, path, literals)
+
     def many_files(self, size):
         """The files of the source code, each by itself, and one of middling size alone."""
         files, total = [], 0
@@ -351,6 +375,7 @@ class Searches:
         yield from self.many_files(size)
         for text in self.texts:
             yield from self.long_lists(text)
+        yield from self.alike(size)
 
 
 # ---------------------------------------------------------------- output

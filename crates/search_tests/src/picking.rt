@@ -108,6 +108,22 @@ fn first_wrong(
     Ok(None)
 }
 
+/// What a picker emits of a text in pieces of `size` bytes. A function that owns a picker has to prove at each of its
+/// exits that the whole picker may be dropped, which takes long, so this one borrows it.
+fn emitted_in_pieces(
+    alloc: Global,
+    picker: &mut Picker<'_>,
+    text: &[u8],
+    size: usize,
+) -> Option<Vec<u8>> {
+    let mut sink = Kept::new(alloc, Mood::Takes);
+    for piece in text.chunks(size.max(1)) {
+        picker.feed(piece, &mut sink).ok()?;
+    }
+    picker.finish(&mut sink).ok()?;
+    Some(sink.text)
+}
+
 /// What stands for the first wrong turn where a plan is none of a picker's.
 const NO_PICKER: Option<usize> = Some(usize::MAX);
 

@@ -1,5 +1,6 @@
 //! Pickers with a finder that tunes itself to the text, compared with pickers by the plan alone.
-ghost use Rattle.std.specs.Prelude.{◌≡◌, IfSome};
+ghost use Rattle.std.specs.Prelude.{◌≡◌, Some};
+ghost use Rattle.line_pick.specs.Matching.{list_of};
 
 use super::*;
 use text_search::Engine;
@@ -30,95 +31,97 @@ fn long_text(alloc: Global) -> Option<Vec<u8>> {
     Some(text)
 }
 
-/// What a picker emits of a text whose last seven bytes are a piece of their own.
-fn emitted_by(alloc: Global, picker: &mut Picker<'_>, text: &[u8]) -> Option<Vec<u8>> {
-    let (prefix, rest) = text.split_at(text.len().saturating_sub(7));
+/// When a picker gets a finder.
+#[derive(Clone, Copy, PartialEq, Eq)]
+enum Tuned {
+    Never,
+    AtFirst,
+    Halfway,
+}
+
+/// What a picker emits of a text: of the first half in one piece, of the rest in pieces of 20,000 bytes.
+fn emitted_by(
+    alloc: Global,
+    compiled: &Compiled,
+    picker: &mut Picker<'_>,
+    tuned: Tuned,
+    text: &[u8],
+) -> Option<Vec<u8>>
+    requires { list_of picker.old.plan ≡ Some compiled.now.literals }
+{
+    let (prefix, rest) = text.split_at(text.len() / 2);
+    if tuned == Tuned::AtFirst {
+        picker.tune_by(EndFinder::new(alloc, compiled).ok()?);
+    }
     let mut sink = Kept::new(alloc, Mood::Takes);
     picker.feed(prefix, &mut sink).ok()?;
-    picker.feed(rest, &mut sink).ok()?;
+    if tuned == Tuned::Halfway {
+        picker.tune_by(EndFinder::new(alloc, compiled).ok()?);
+    }
+    for piece in rest.chunks(20_000) {
+        picker.feed(piece, &mut sink).ok()?;
+    }
     picker.finish(&mut sink).ok()?;
     Some(sink.text)
 }
 
-/// What one by the plan alone emits.
-fn emitted_by_plan(
+/// What a picker emitted, and the engine of its finder then.
+#[derive(Drop)]
+struct Emitted {
+    text: Vec<u8>,
+    engine: Option<Engine>,
+}
+
+/// What a picker for this plan emits of a text.
+fn emitted(
     alloc: Global,
     compiled: &Compiled,
     rule: LineRule,
+    tuned: Tuned,
     text: &[u8],
-) -> Option<Vec<u8>> {
+) -> Option<Emitted> {
     if !is_in_lines(compiled) {
         return None;
     }
     let mut picker = Picker::new(alloc, Some(compiled), false, rule);
-    emitted_by(alloc, &mut picker, text)
+    let text = emitted_by(alloc, compiled, &mut picker, tuned, text);
+    let engine = engine_of(picker.into_finder());
+    Some(Emitted {
+        text: text?,
+        engine,
+    })
 }
 
-/// A finder by a plan.
-fn finder_by(alloc: Global, compiled: &Compiled) -> Option<EndFinder>
-    ensures { IfSome result (λ list. list ≡ compiled.now.literals) }
-{
-    EndFinder::new(alloc, compiled).ok()
+/// The engine of a finder.
+fn engine_of(finder: Option<EndFinder>) -> Option<Engine> {
+    Some(finder?.engine())
 }
 
-/// What one with a finder emits.
-fn emitted_by_finder(
-    alloc: Global,
-    compiled: &Compiled,
-    rule: LineRule,
-    text: &[u8],
-) -> Option<Vec<u8>> {
-    if !is_in_lines(compiled) {
-        return None;
-    }
-    let mut picker = Picker::new(alloc, Some(compiled), false, rule);
-    picker.tune_by(finder_by(alloc, compiled)?);
-    emitted_by(alloc, &mut picker, text)
-}
-
-/// What one emits that has a finder from the middle of the text on.
-fn emitted_by_late_finder(
-    alloc: Global,
-    compiled: &Compiled,
-    rule: LineRule,
-    text: &[u8],
-) -> Option<Vec<u8>> {
-    if !is_in_lines(compiled) {
-        return None;
-    }
-    let (prefix, rest) = text.split_at(text.len() / 2);
-    let mut picker = Picker::new(alloc, Some(compiled), false, rule);
-    let mut sink = Kept::new(alloc, Mood::Takes);
-    picker.feed(prefix, &mut sink).ok()?;
-    picker.tune_by(finder_by(alloc, compiled)?);
-    picker.feed(rest, &mut sink).ok()?;
-    picker.finish(&mut sink).ok()?;
-    if picker.tunes() {
-        Some(sink.text)
-    } else {
-        None
-    }
-}
-
-/// Whether all emit the same, and some lines.
-fn emit_the_same(alloc: Global, rule: LineRule) -> Option<bool> {
+/// Whether pickers without a finder, with one, and with one from the middle on emit the same, and some lines.
+fn emit_the_same(alloc: Global, rule: LineRule, text: &[u8]) -> Option<bool> {
     let compiled = plan_of(alloc, WORDS)?;
-    let text = long_text(alloc)?;
-    let plain = emitted_by_plan(alloc, &compiled, rule, &text)?;
-    let tuned = emitted_by_finder(alloc, &compiled, rule, &text)?;
-    let late = emitted_by_late_finder(alloc, &compiled, rule, &text)?;
-    let are_alike = plain.as_slice() == tuned.as_slice() && plain.as_slice() == late.as_slice();
-    Some(!plain.is_empty() && are_alike)
+    let plain = emitted(alloc, &compiled, rule, Tuned::Never, text)?;
+    let tuned = emitted(alloc, &compiled, rule, Tuned::AtFirst, text)?;
+    let late = emitted(alloc, &compiled, rule, Tuned::Halfway, text)?;
+    let are_alike = plain.text.as_slice() == tuned.text.as_slice()
+        && plain.text.as_slice() == late.text.as_slice();
+    let hand_back = plain.engine.is_none() && tuned.engine.is_some() && late.engine.is_some();
+    Some(!plain.text.is_empty() && are_alike && hand_back)
+}
+
+/// Whether they do in many short lines.
+fn emit_the_same_lines(alloc: Global, rule: LineRule) -> Option<bool> {
+    emit_the_same(alloc, rule, &long_text(alloc)?)
 }
 
 #[test]
 fn emits_the_same_lines_as_it_tunes(rt: HostRuntime) {
-    assert_eq!(rt; emit_the_same(rt.alloc(), PARTS), Some(true));
+    assert_eq!(rt; emit_the_same_lines(rt.alloc(), PARTS), Some(true));
 }
 
 #[test]
 fn emits_the_same_whole_lines_as_it_tunes(rt: HostRuntime) {
-    assert_eq!(rt; emit_the_same(rt.alloc(), WHOLE), Some(true));
+    assert_eq!(rt; emit_the_same_lines(rt.alloc(), WHOLE), Some(true));
 }
 
 /// Adds 65,520 bytes without a literal.
@@ -144,39 +147,14 @@ fn long_lines(alloc: Global) -> Option<Vec<u8>> {
     Some(text)
 }
 
-/// What a picker emits of a text in pieces of 20,000 bytes.
-fn emitted_in_pieces(alloc: Global, picker: &mut Picker<'_>, text: &[u8]) -> Option<Vec<u8>> {
-    let mut sink = Kept::new(alloc, Mood::Takes);
-    for piece in text.chunks(20_000) {
-        picker.feed(piece, &mut sink).ok()?;
-    }
-    picker.finish(&mut sink).ok()?;
-    Some(sink.text)
-}
-
-/// Whether one with a finder and one by the plan alone emit the same of long lines, and some of them.
-fn join_the_same(alloc: Global, compiled: &Compiled) -> Option<bool> {
-    if !is_in_lines(compiled) {
-        return None;
-    }
-    let text = long_lines(alloc)?;
-    let mut plain = Picker::new(alloc, Some(compiled), false, PARTS);
-    let wanted = emitted_in_pieces(alloc, &mut plain, &text)?;
-    let mut tuned = Picker::new(alloc, Some(compiled), false, PARTS);
-    tuned.tune_by(finder_by(alloc, compiled)?);
-    let got = emitted_in_pieces(alloc, &mut tuned, &text)?;
-    Some(!wanted.is_empty() && wanted.as_slice() == got.as_slice())
-}
-
-/// Whether they do for the words.
-fn join_words_the_same(alloc: Global) -> Option<bool> {
-    let compiled = plan_of(alloc, WORDS)?;
-    join_the_same(alloc, &compiled)
+/// Whether they do in a few long lines.
+fn emit_the_same_long_lines(alloc: Global) -> Option<bool> {
+    emit_the_same(alloc, PARTS, &long_lines(alloc)?)
 }
 
 #[test]
 fn emits_the_same_long_lines_in_pieces(rt: HostRuntime) {
-    assert_eq!(rt; join_words_the_same(rt.alloc()), Some(true));
+    assert_eq!(rt; emit_the_same_long_lines(rt.alloc()), Some(true));
 }
 
 /// Lines that hold the last bytes of one of the phrases, and none of them.
@@ -189,53 +167,14 @@ fn near_misses(alloc: Global) -> Option<Vec<u8>> {
 }
 
 /// Whether a picker's finder leaves the prefilter in such lines.
-fn tunes_by(alloc: Global, compiled: &Compiled) -> Option<bool> {
-    if !is_in_lines(compiled) {
-        return None;
-    }
-    let text = near_misses(alloc)?;
-    let mut picker = Picker::new(alloc, Some(compiled), false, PARTS);
-    picker.tune_by(finder_by(alloc, compiled)?);
-    let emitted = emitted_in_pieces(alloc, &mut picker, &text)?;
-    let finder = picker.into_finder()?;
-    Some(emitted.is_empty() && finder.engine() != Engine::Prefilter)
-}
-
-/// Whether it does for the phrases.
 fn tunes(alloc: Global) -> Option<bool> {
     let compiled = plan_of(alloc, PHRASES)?;
-    tunes_by(alloc, &compiled)
+    let text = near_misses(alloc)?;
+    let tuned = emitted(alloc, &compiled, PARTS, Tuned::AtFirst, &text)?;
+    Some(tuned.text.is_empty() && tuned.engine? != Engine::Prefilter)
 }
 
 #[test]
 fn tunes_to_many_false_positives(rt: HostRuntime) {
     assert_eq!(rt; tunes(rt.alloc()), Some(true));
-}
-
-/// Whether a picker that was made with a finder hands it back.
-fn hands_back_by(alloc: Global, compiled: &Compiled) -> Option<bool> {
-    if !is_in_lines(compiled) {
-        return None;
-    }
-    let mut picker = Picker::new(alloc, Some(compiled), false, PARTS);
-    picker.tune_by(finder_by(alloc, compiled)?);
-    Some(picker.tunes() && picker.into_finder().is_some())
-}
-
-/// The same by the plan of the tests.
-fn hands_back_a_finder(alloc: Global) -> Option<bool> {
-    let compiled = plan_of(alloc, WORDS)?;
-    hands_back_by(alloc, &compiled)
-}
-
-/// Whether a picker that was made without a finder does.
-fn hands_out_a_finder(alloc: Global) -> bool {
-    let picker = Picker::new(alloc, None, true, PARTS);
-    picker.tunes() || picker.into_finder().is_some()
-}
-
-#[test]
-fn hands_back_the_finder(rt: HostRuntime) {
-    assert_eq!(rt; hands_back_a_finder(rt.alloc()), Some(true));
-    assert_eq!(rt; hands_out_a_finder(rt.alloc()), false);
 }

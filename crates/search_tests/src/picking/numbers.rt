@@ -28,7 +28,7 @@ impl Sink for Bare {
 const PIECES: [&[u8]; 3] = [b"dog\nconc", b"at\ncow\ncat\nbe", b"e\ncatfish"];
 
 /// What a picker emits of them.
-fn emitted_by(alloc: Global, mut picker: Picker<'_>) -> Option<Vec<u8>> {
+fn emitted_by(alloc: Global, picker: &mut Picker<'_>) -> Option<Vec<u8>> {
     let mut sink = Bare {
         text: Vec::new(alloc),
     };
@@ -39,16 +39,28 @@ fn emitted_by(alloc: Global, mut picker: Picker<'_>) -> Option<Vec<u8>> {
     Some(sink.text)
 }
 
+/// What a picker with or without numbers emits of them.
+fn emitted(
+    alloc: Global,
+    compiled: &Compiled,
+    rule: LineRule,
+    is_numbered: bool,
+) -> Option<Vec<u8>> {
+    if !is_in_lines(compiled) {
+        return None;
+    }
+    let mut picker = Picker::new(alloc, Some(compiled), false, rule);
+    if !is_numbered {
+        picker = picker.without_numbers();
+    }
+    emitted_by(alloc, &mut picker)
+}
+
 /// Whether pickers with and without numbers emit these lines.
 fn emit(alloc: Global, rule: LineRule, wanted: &[u8]) -> Option<bool> {
     let compiled = plan_of_one(alloc, b"cat")?;
-    if !is_in_lines(&compiled) {
-        return None;
-    }
-    let picker = Picker::new(alloc, Some(&compiled), false, rule);
-    let numbered = emitted_by(alloc, picker)?;
-    let picker = Picker::new(alloc, Some(&compiled), false, rule);
-    let bare = emitted_by(alloc, picker.without_numbers())?;
+    let numbered = emitted(alloc, &compiled, rule, true)?;
+    let bare = emitted(alloc, &compiled, rule, false)?;
     Some(numbered.as_slice() == wanted && bare.as_slice() == wanted)
 }
 

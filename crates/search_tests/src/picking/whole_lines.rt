@@ -1,5 +1,5 @@
 //! Searches for whole lines, compared with lines that are compared one by one.
-use super::{Kept, Mood, WHOLE};
+use super::{Kept, Mood, WHOLE, emitted_in_pieces};
 use flow_scan::Compiled;
 use line_pick::{LineRule, Picker, Sink, is_in_lines};
 use list_plan::compile;
@@ -89,12 +89,7 @@ fn kept_in_pieces(
         return None;
     }
     let mut picker = Picker::new(alloc, Some(compiled), has_empty, rule);
-    let mut sink = Kept::new(alloc, Mood::Takes);
-    for piece in text.chunks(size.max(1)) {
-        picker.feed(piece, &mut sink).ok()?;
-    }
-    picker.finish(&mut sink).ok()?;
-    Some(sink.text)
+    emitted_in_pieces(alloc, &mut picker, text, size)
 }
 
 /// Whether both keep the same lines, in whatever pieces the text comes.
