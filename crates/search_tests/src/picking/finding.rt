@@ -65,9 +65,9 @@ fn emitted_by(
     Some(sink.text)
 }
 
-/// What a picker emitted, and the engine of its finder then.
+/// What a picker emitted, and the engine of its finder at the end.
 #[derive(Drop)]
-struct Emitted {
+struct Outcome {
     text: Vec<u8>,
     engine: Option<Engine>,
 }
@@ -79,14 +79,14 @@ fn emitted(
     rule: LineRule,
     tuned: Tuned,
     text: &[u8],
-) -> Option<Emitted> {
+) -> Option<Outcome> {
     if !is_in_lines(compiled) {
         return None;
     }
     let mut picker = Picker::new(alloc, Some(compiled), false, rule);
     let text = emitted_by(alloc, compiled, &mut picker, tuned, text);
     let engine = engine_of(picker.into_finder());
-    Some(Emitted {
+    Some(Outcome {
         text: text?,
         engine,
     })
