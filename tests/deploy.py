@@ -28,6 +28,7 @@ PARTS = {
     "systemd_units": ("deploy_parts.systemd_units", ["systemd-socket-activate", "systemd-analyze", "strace"]),
     "haproxy_balancer": ("deploy_parts.haproxy_balancer", ["haproxy", "systemd-socket-activate"]),
     "parallel_hosts": ("deploy_parts.parallel_hosts", ["parallel"]),
+    "dask_calls": ("deploy_parts.dask_calls", []),
     "dask_cluster": ("deploy_parts.dask_cluster", ["dask-scheduler", "dask-worker"]),
     "nginx_filter": ("deploy_parts.nginx_filter", ["nginx"]),
     "rsyslog_tags": ("deploy_parts.rsyslog_tags", ["rsyslogd"]),

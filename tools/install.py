@@ -7,6 +7,7 @@
 replaced."""
 
 import argparse
+import contextlib
 import glob
 import os
 import re
@@ -74,7 +75,7 @@ def listed(options):
         yield os.path.join(options.programs, program), os.path.join(options.bindir, program)
     for pattern, folder in FILES:
         base = os.path.join(TOP, pattern[:-2] if pattern.endswith("**") else os.path.dirname(pattern))
-        for source in sorted(glob.glob(os.path.join(TOP, pattern), recursive=True)):
+        for source in sorted(glob.glob(os.path.join(glob.escape(TOP), pattern), recursive=True)):
             if os.path.isfile(source) and "__pycache__" not in source:
                 yield source, os.path.normpath(os.path.join(folder.format(**folders), os.path.relpath(source, base)))
     for name, folder in LIBRARY:
@@ -89,6 +90,9 @@ def put(source, target, options):
     prefix wherever its folder is."""
     os.makedirs(os.path.dirname(target), exist_ok=True)
     part = f"{target}.part"
+    # An installation that was ended may have left one. Through a link, the file that it names would be written.
+    with contextlib.suppress(FileNotFoundError):
+        os.remove(part)
     if os.path.islink(source):
         os.symlink(os.readlink(source), part)
     elif target.endswith(".service"):
@@ -119,8 +123,23 @@ def remove(target, options):
     own = [options.docdir, f"{options.prefix}/share/fiolargu", f"{options.pythondir}/fiolargu"]
     own = [options.destdir + folder for folder in own]
     while any(f"{folder}/".startswith(f"{top}/") for top in own) and os.path.isdir(folder) and not os.listdir(folder):
+        if os.path.islink(folder):
+            # Somebody else made the link, and what it names may be used otherwise.
+            return
         os.rmdir(folder)
         folder = os.path.dirname(folder)
+
+
+def folder_fault(options):
+    """Why nothing can be installed into these folders, or None."""
+    for name in ("prefix", *FOLDERS):
+        folder = getattr(options, name)
+        if not os.path.isabs(folder):
+            return f"--{name} {folder}: the folder must begin with /"
+    # systemd reads blanks, quotes, backslashes, % and $ of a command as its own.
+    if re.search(r"[\s\"'\\%$]", options.bindir):
+        return f"--bindir {options.bindir}: units of systemd cannot name a folder with a blank, a quote, \\, % or $"
+    return None
 
 
 def parsed(words):
@@ -139,6 +158,10 @@ def parsed(words):
     for name, (below, _) in FOLDERS.items():
         setattr(options, name, os.path.normpath(getattr(options, name) or os.path.join(options.prefix, below)))
     options.programs = os.path.abspath(options.programs)
+    # What was installed so is removed nevertheless.
+    fault = None if options.uninstall else folder_fault(options)
+    if fault:
+        parser.error(fault)
     return options
 
 

@@ -17,8 +17,8 @@ and the Python package `fiolargu`, which is sent too. With --scand they start a 
 
 Files are searched in parts. For lines and counts parts are cut at newlines. For hits they are cut anywhere: the
 `longest - 1` bytes before a part are fed first, and their hits dropped. If a worker is lost, another worker searches its
-part. Progress goes to standard error. Status 0: something was found; 1: nothing; 2: some part could not be searched, or the
-list could not be planned, and the output is the first part of what it should be.
+part. Progress goes to standard error. Status 0: something was found; 1: nothing; 2: some part could not be searched,
+the list could not be planned, or the output not be written, and the output is the first part of what it should be.
 """
 
 import argparse
@@ -92,6 +92,8 @@ def selected(litgrep, flags, words, path, start, end):
         last, first = line_start(file, end), line_start(file, start)
         file.seek(first)
         text = file.read(last - first)
+        if len(text) < last - first or os.fstat(file.fileno()).st_size < end:
+            raise RuntimeError(f"{path} is shorter than it was")
     return output([litgrep, *flags, "-f", sent(words)], text, {0, 1})
 
 
@@ -122,23 +124,26 @@ def begun(scand, plan_file):
 
 
 def name_library(library):
-    """Names the library for the package, where it was given."""
-    if library:
-        os.environ["FIOLARGU_LIBRARY"] = library
+    """Names the library for the package: the given one, or else the worker's own, which the first call notes."""
+    own = os.environ.setdefault("SCAN_ARCHIVE_LIBRARY", os.environ.get("FIOLARGU_LIBRARY", ""))
+    os.environ["FIOLARGU_LIBRARY"] = library or own
 
 
 def loaded(library, plan_file):
     """The plan of a file, which the library checked. A worker keeps the last plan."""
     worker = distributed.get_worker()
-    if getattr(worker, "scan_archive_plan", (None,))[0] != plan_file:
+    # Read once: a thread of another job may put its plan here at any time.
+    name, plan = getattr(worker, "scan_archive_plan", (None, None))
+    if name != plan_file:
         from fiolargu import FiolarguError, Plan
 
         name_library(library)
         try:
-            worker.scan_archive_plan = plan_file, Plan.from_file(plan_file)
+            plan = Plan.from_file(plan_file)
         except FiolarguError as fault:
             raise RuntimeError(f"{plan_file}: {fault}") from fault
-    return worker.scan_archive_plan[1]
+        worker.scan_archive_plan = plan_file, plan
+    return plan
 
 
 @located
@@ -303,6 +308,7 @@ def search(cluster, given):
             count = 0 if is_last else count
         found = found or bool(text and given.what != "count")
         out.write(b"".join(front + line + b"\n" for line in text.split(b"\n")[:-1]) if front else text)
+    out.flush()
     return found
 
 
@@ -313,6 +319,12 @@ def main():
             return 0 if search(cluster, given) else 1
     except Exception as fault:
         print(f"scan_archive: {named(fault)}", file=sys.stderr)
+        if sys.stdout is not None:
+            try:
+                sys.stdout.flush()
+            except OSError:
+                # What is still to be written would fail again at the end of the program, whose status would be 120.
+                os.dup2(os.open(os.devnull, os.O_WRONLY), sys.stdout.fileno())
         return 2
 
 

@@ -93,7 +93,9 @@ function _M.block()
   if not own.is_blocked then
     own.is_blocked = true
     shown(own)
-    ngx.log(message and ngx.ERR or ngx.WARN, "fiolargu: blocked ", ngx.var.uri, ": ", message or ngx.var.fiolargu_literals)
+    -- The address as the client sent it: `uri` is decoded, and a newline in it would begin a line of the log.
+    local address, reason = ngx.var.request_uri, message or ngx.var.fiolargu_literals
+    ngx.log(message and ngx.ERR or ngx.WARN, "fiolargu: blocked ", address, ": ", reason)
   end
   -- nginx passes nothing on, and closes the connection.
   return ngx.ERROR

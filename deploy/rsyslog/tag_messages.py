@@ -12,19 +12,33 @@ properties to the message:
     $!fiolargu!literals    the literals found, in the order of their first ends, with commas between them
 
 A byte that is not UTF-8, a comma and a backslash of a literal are written as \\xHH. A message that is not JSON gets the count -1.
-Status 2: the list cannot be read or planned, and rsyslog goes on without tags.
+Status 2: the list cannot be read or planned, and rsyslog goes on without tags. Where standard output and standard error
+are one pipe, as in rsyslog, messages of the program are dropped: run it by hand to see them.
 """
 
-import argparse
-import json
+import contextlib
 import os
+import site
+import stat
 import sys
-from typing import List
+
+# mmexternal gives the program one pipe for standard output and standard error, and takes each line for a reply. An error
+# means that one of them is closed.
+with contextlib.suppress(OSError):
+    if stat.S_ISFIFO(os.fstat(1).st_mode) and os.path.sameopenfile(1, 2):
+        os.dup2(os.open(os.devnull, os.O_WRONLY), 2)
+
+import argparse  # noqa: E402
+import json  # noqa: E402
+from typing import List  # noqa: E402
 
 HERE = os.path.dirname(os.path.abspath(__file__))
 PACKAGE = os.path.join(HERE, "..", "..", "clients", "python")
 if os.path.isdir(os.path.join(PACKAGE, "fiolargu")):
     sys.path.insert(0, PACKAGE)
+if sys.flags.no_site:
+    # The folders of packages, which `python3 -S` leaves out. Their .pth files, which may write lines, are not read.
+    sys.path += site.getsitepackages()
 
 from fiolargu import FiolarguError, Plan  # noqa: E402
 

@@ -1,6 +1,7 @@
 """deploy/haproxy: a balancer with three servers, one of them killed under load."""
 
 import os
+import pwd
 import random
 import re
 import subprocess
@@ -8,11 +9,13 @@ import tempfile
 import threading
 import time
 
-from deploy_parts.systemd_units import Activated, packed
+from deploy_parts.systemd_units import UNITS, Activated, packed
 from support.programs import LITPLAN, TOP
 from support.pyclient import Client, ConnectionLost, Resumed, fault_of, plain_hits
 from support.servers import SECONDS, free_port
 
+# How many connections a server has room for, beyond those that the balancer gives it.
+SPARE = 32
 CONFIG = os.path.join(TOP, "deploy", "haproxy", "haproxy.cfg")
 WORDS = [b"error", b"warn", b"cat", b"concat", b"e", b"timeout reached", b"x" * 300]
 LOADED = 12
@@ -36,6 +39,14 @@ def files_of_each_version(folder):
     return [old, new, migrated]
 
 
+def own_user():
+    """The number of the user that the balancer goes on as, or None where it cannot: it does not run as root, or there is none."""
+    try:
+        return pwd.getpwnam("haproxy").pw_uid if os.geteuid() == 0 else None
+    except KeyError:
+        return None
+
+
 class Balancer:
     """The balancer of deploy/haproxy on free ports, before as many servers as it names, each with a plan file."""
 
@@ -43,6 +54,8 @@ class Balancer:
         self.folder = tempfile.TemporaryDirectory()
         with open(CONFIG) as file:
             text = file.read()
+        if own_user() is None:
+            text = re.sub(r"^ +(user|group) haproxy\n", "", text, flags=re.M)
         ports = {port: str(free_port()) for port in re.findall(r"127\.0\.0\.1:(\d+)", text)}
         self.port = int(ports["7000"])
         backends = [int(ports[port]) for port in sorted(ports) if port != "7000"]
@@ -135,6 +148,33 @@ def connected(server):
         return len(file.read().split())
 
 
+def number_in(path, pattern):
+    """The number that a pattern finds in a file, and finds once."""
+    with open(path) as file:
+        (number,) = re.findall(pattern, file.read(), re.M)
+    return int(number)
+
+
+def limits():
+    """A server has room for more connections than the balancer gives it: for checks, and for those whose process still ends."""
+    given = number_in(CONFIG, r"^ +default-server .* maxconn (\d+)$")
+    room = number_in(os.path.join(UNITS, "scand.socket"), r"^MaxConnections=(\d+)$")
+    yield f"maxconn {given}, MaxConnections={room}", given + SPARE <= room, True
+
+
+def rights():
+    """Started as root, the balancer goes on without its rights."""
+    with open(CONFIG) as file:
+        text = file.read()
+    yield "user and group", re.findall(r"^ +(user|group) (.*)$", text, re.M), [("user", "haproxy"), ("group", "haproxy")]
+    if own_user() is None:
+        print("left out: the user of the balancer, for want of root or of the user haproxy")
+        return
+    with Balancer() as balancer:
+        yield "through the balancer", balancer.waited(), plain_hits(WORDS, False, b"concat")
+        yield "its user", os.stat(f"/proc/{balancer.program.pid}").st_uid, own_user()
+
+
 def same_plans():
     """The plan of the file has the same number in each server, and a plan that a client publishes has another."""
     with Balancer() as balancer:
@@ -205,4 +245,4 @@ def untended():
         yield "no server left", (fault_of(lost.feed, b"cat")[0], lost.losses), ("ConnectionLost", 3)
 
 
-TESTS = (same_plans, killed, each_version, untended)
+TESTS = (limits, rights, same_plans, killed, each_version, untended)

@@ -213,6 +213,12 @@ def blocked(upstream, served):
     yield "a short body", served.get("/b")[2], False
     log = served.log("error.log")
     yield "is logged", "fiolargu: blocked /b: cat,concat" in log, True
+    forged = "/b%0A2026/12/01%20[error]%20forged%1B[2J%FF"
+    upstream.bodies[forged] = [b"a cat"]
+    yield "a request with a newline", served.get(forged)[2], False
+    log = served.log("error.log")
+    yield "is logged in one line", f"fiolargu: blocked {forged}: cat" in log, True
+    yield "lines that a request forged", [line for line in log.splitlines() if not re.match(r"\d{4}/.* \d+#\d+: ", line)], []
     yield "no other errors", [line for line in log.splitlines() if "[error]" in line and "fiolargu: blocked" not in line], []
 
 

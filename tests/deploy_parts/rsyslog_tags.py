@@ -4,6 +4,7 @@ import glob
 import json
 import os
 import random
+import re
 import signal
 import socket
 import subprocess
@@ -18,14 +19,19 @@ from support.servers import SECONDS, free_port
 OWN = os.path.join(TOP, "deploy", "rsyslog")
 SCRIPT = os.path.join(OWN, "tag_messages.py")
 PYTHON = "/usr/bin/python3"
+# What Python reads as it starts, and what writes a line then.
+NOISE = {"sitecustomize.py": b"import sys; print('a line', file=sys.stderr)\n"}
 WORDS = [b"error", b"timeout", b"17 ms", b"disk a,b", b"c\\d", b"caf\xc3\xa9"]
 MESSAGES = 100000
 
 
 class Daemon:
-    """rsyslogd with the configuration of deploy/rsyslog, which takes messages on a free port and writes all of them too."""
+    """rsyslogd with the configuration of deploy/rsyslog, which takes messages on a free port and writes all of them too.
+    Python finds the modules of the folder `noise` when it starts, unless it is told not to look."""
 
     def __init__(self, folder, words=WORDS):
+        os.mkdir(f"{folder}/noise")
+        lay_out(f"{folder}/noise", NOISE)
         self.folder, self.port = folder, free_port()
         with open(os.path.join(OWN, "fiolargu.conf")) as file:
             text = file.read()
@@ -33,7 +39,7 @@ class Daemon:
             ("/usr/local/share/fiolargu/deploy/rsyslog", OWN), ("/etc/fiolargu/words", f"{folder}/words"),
             ("/var/log/fiolargu.log", f"{folder}/tagged.log"),
             # rsyslogd gives the program no environment.
-            ("/usr/bin/python3", f"/usr/bin/env FIOLARGU_LIBRARY={clibrary.LIBRARY} {PYTHON}"),
+            ("/usr/bin/python3", f"/usr/bin/env FIOLARGU_LIBRARY={clibrary.LIBRARY} PYTHONPATH={folder}/noise {PYTHON}"),
         ):
             assert written in text, written
             text = text.replace(written, own)
@@ -157,6 +163,30 @@ def without_list():
         yield "none of them is tagged", daemon.lines("tagged.log", 0), []
 
 
+def one_pipe():
+    """The command of rsyslog, with one pipe for standard output and standard error: the replies are all that comes, also where
+    Python would write a line as it starts, or where the list is missing. Otherwise messages are written."""
+    with open(os.path.join(OWN, "fiolargu.conf")) as file:
+        command = re.search(r'binary="(.*) -i /etc', file.read())[1].split()
+    with tempfile.TemporaryDirectory() as folder:
+        lay_out(folder, {"words": b"cat\n", **NOISE})
+        command[-1] = SCRIPT
+        env = {**os.environ, "PYTHONPATH": folder}
+
+        def run(words, fault):
+            how = {"input": b'{"msg":"a cat"}\n', "stdout": subprocess.PIPE, "stderr": fault, "timeout": 60}
+            done = subprocess.run([*command, words], cwd=folder, env=env, **how)
+            return done.returncode, done.stdout
+
+        want = b'{"$!": {"fiolargu": {"count": 1, "literals": "cat"}}}\n'
+        yield "one pipe", run("words", subprocess.STDOUT), (0, want)
+        yield "one pipe, a list that is missing", run("none", subprocess.STDOUT), (2, b"")
+        with tempfile.TemporaryFile() as file:
+            yield "a file of its own", run("none", file), (2, b"")
+            file.seek(0)
+            yield "the message", file.read(), b"tag_messages: none: No such file or directory\n"
+
+
 def alone():
     """The program by lists, plan files, odd messages, and lists that it cannot use."""
     with tempfile.TemporaryDirectory() as folder:
@@ -187,7 +217,7 @@ def alone():
 def with_library():
     """Each test, where there is a library."""
     if clibrary.is_there("rsyslog_tags"):
-        for test in alone, without_list, piped, killed:
+        for test in alone, one_pipe, without_list, piped, killed:
             yield from test()
 
 

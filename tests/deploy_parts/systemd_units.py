@@ -72,6 +72,12 @@ def copied_units(folder):
     return [os.path.join(folder, name) for name in ("scand.socket", "scand@.service", "scand-port@.service")]
 
 
+def unlimited():
+    """However fast connections come, the socket stays: the default of 200 in two seconds would end it."""
+    with open(os.path.join(UNITS, "scand.socket")) as file:
+        yield "the limit of scand.socket", re.findall(r"^(TriggerLimit.*)=(.*)$", file.read(), re.M), [("TriggerLimitIntervalSec", "0")]
+
+
 def instance(unit):
     """The name of an instance of a template."""
     return unit.replace("@.", "@7001.")
@@ -216,4 +222,4 @@ def traced(path):
         return set(re.findall(r"^\d+ +(?:<\.\.\. )?([a-z0-9_]+)", file.read(), re.M)) - {"exited", "killed"}
 
 
-TESTS = (units, started, planned, calls)
+TESTS = (units, unlimited, started, planned, calls)

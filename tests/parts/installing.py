@@ -19,6 +19,7 @@ WHOLE = {
     "deploy/haproxy": "share/fiolargu/deploy/haproxy",
     "deploy/nginx": "share/fiolargu/deploy/nginx",
     "deploy/rsyslog": "share/fiolargu/deploy/rsyslog",
+    "clients/python/fiolargu": "share/fiolargu/clients/python/fiolargu",
     "clients/rust/src": "share/fiolargu/clients/rust/src",
     "clients/rust/tests": "share/fiolargu/clients/rust/tests",
     "docs": "share/doc/fiolargu/docs",
@@ -77,8 +78,7 @@ def to_install():
 
 def without_libraries(files):
     """The files, except libraries."""
-    left_out = "include/", "lib/of-this-machine/", "share/fiolargu/clients/python/fiolargu/"
-    return {name: mode for name, mode in files.items() if not name.startswith(left_out)}
+    return {name: mode for name, mode in files.items() if not name.startswith(("include/", "lib/of-this-machine/"))}
 
 
 def has_symbols(*path):
@@ -152,4 +152,50 @@ def libraries():
         yield "the remaining folder of modules", os.listdir(f"{folder}/to/python"), []
 
 
-TESTS = (installing, moved, libraries)
+def odd_folders():
+    """A repository in a folder whose name is a pattern, links that an installation left, and a folder that is a link."""
+    with tempfile.TemporaryDirectory() as folder:
+        stand_ins(folder)
+        os.symlink(TOP, f"{folder}/a[b]")
+        for name in "to/bin", "to/lib/systemd/system", "to/share/doc", "built/lib", "docs":
+            os.makedirs(f"{folder}/{name}")
+        lay_out(folder, {"kept": b"kept"})
+        os.symlink("libfiolargu.so.0", f"{folder}/built/lib/libfiolargu.so")
+        lay_out(folder, {"built/lib/libfiolargu.so.0": b""})
+        for name in "bin/scand", "lib/systemd/system/scand@.service", "lib/libfiolargu.so":
+            os.symlink(f"{folder}/kept", f"{folder}/to/{name}.part")
+        os.symlink(f"{folder}/docs", f"{folder}/to/share/doc/fiolargu")
+        words = [sys.executable, f"{folder}/a[b]/tools/install.py", "--prefix", f"{folder}/to", "--programs", folder]
+        words += ["--library", f"{folder}/built"]
+        yield "installing", ran(*words), (0, "", "")
+        docs = {f"share/doc/fiolargu/{name}" for name in files_below(f"{folder}/docs")}
+        yield "missing files", set(to_install()) - set(files_below(f"{folder}/to")) - docs, set()
+        yield "links that were left", [name for name in files_below(f"{folder}/to") if name.endswith(".part")], []
+        yield "the size of the file that they named", os.path.getsize(f"{folder}/kept"), 4
+        yield "the library's link", os.path.realpath(f"{folder}/to/lib/libfiolargu.so"), f"{folder}/to/lib/libfiolargu.so.0"
+        yield "removing", ran(*words, "--uninstall"), (0, "", "")
+        yield "the remaining files", (files_below(f"{folder}/to"), os.listdir(f"{folder}/docs")), ({}, [])
+        yield "the link to a folder", os.path.islink(f"{folder}/to/share/doc/fiolargu"), True
+
+
+def refused():
+    """Folders that units cannot name are refused before anything is installed, and uninstalled as before."""
+    with tempfile.TemporaryDirectory() as folder:
+        stand_ins(folder)
+        before = sorted(os.listdir(folder))
+        words = [sys.executable, os.path.join(TOP, "tools", "install.py"), "--programs", folder, "--destdir", f"{folder}/to"]
+        unnamed = "units of systemd cannot name a folder with a blank, a quote,"
+        for given, message in (
+            (["--prefix", "usr"], "--prefix usr: the folder must begin with /"),
+            (["--unitdir", "lib"], "--unitdir lib: the folder must begin with /"),
+            *((["--prefix", f"/{name}"], f"--bindir /{name}/bin: {unnamed}") for name in ("a b", 'a"', "a'", "50%")),
+            (["--bindir", "/a$b"], f"--bindir /a$b: {unnamed}"),
+        ):
+            status, out, fault = ran(*words, *given, cwd=folder)
+            yield f"installing with {given}: {fault[-200:]}", (status, out, message in fault), (2, "", True)
+            yield f"what is installed with {given}", sorted(os.listdir(folder)), before
+            yield f"removing with {given}", ran(*words, *given, "--uninstall", cwd=folder), (0, "", "")
+        yield "programs elsewhere", ran(*words, "--prefix", "/a b", "--bindir", "/bin"), (0, "", "")
+
+
+TESTS = (installing, moved, libraries, odd_folders, refused)
