@@ -199,8 +199,9 @@ def server(root):
         for number in 1, 2:
             yield f"client {number} of systemd-socket-activate", root.run(script), (0, HITS)
     for unit in sorted(os.listdir(os.path.join(TOP, "deploy", "systemd"))):
-        program = re.findall(r"^ExecStart=(\S+)", root.run(f"cat /usr/lib/systemd/system/{unit}")[1], re.M)
-        yield f"the program of {unit}", set(program) - {"/usr/bin/scand"}, set()
+        status, text = root.run(f"cat /usr/lib/systemd/system/{unit}")
+        programs = ["/usr/bin/scand"] * unit.endswith(".service")
+        yield f"the program of {unit}", (status, re.findall(r"^ExecStart=(\S+)", text, re.M)), (0, programs)
 
 
 def purged(root, packages, before):

@@ -12,17 +12,19 @@ long or too large for one plan is published as several plans, and their hits are
 published: files are scanned by a plan that the server has already, and a list may say what its literals are.
 
 FILE `-` is standard input. If the list is known, a scan resumes on a new connection when a connection is lost: up to
-five times in a row, with --stdio once. Status 0: hits were found; 1: none; 2: a file could not be read, standard output could not
-be written, the list was refused, or the server was lost for good. Where nobody reads standard output any more, the run
-ends without a message.
+five times in a row, with --stdio once. Status 0: hits were found; 1: none; 2: a file could not be read, standard output
+could not be written, the list was refused, the server was lost for good, or anything else went wrong. Where nobody
+reads standard output any more, the run ends without a message. Messages that cannot be written are dropped.
 """
 
 import argparse
+import contextlib
 import errno
 import io
 import os
 import re
 import sys
+import traceback
 from typing import BinaryIO, Callable, Iterator, List, Optional, Protocol, Sequence, Tuple
 
 from fiolargu.scand import PAYLOAD, Client, Hit, Refused, Resumed, ScandError, Stream, ordered, pieces_of
@@ -160,6 +162,8 @@ def arguments() -> argparse.Namespace:
     given.list = given.file if given.hex is None else given.hex
     if given.list is None and (given.plan is None or given.names):
         parser.error("-f LIST or --hex LIST is needed" + (" for --names" if given.names else ", or --plan NUMBER"))
+    if given.list is None and given.ignore_case:
+        parser.error("-i is for a list: the server's plan says itself whether case is ignored")
     return given
 
 
@@ -257,7 +261,17 @@ def scan_by_plans(given: argparse.Namespace, out: Output) -> int:
 
 
 def say(text: str) -> None:
-    print(f"scan_files: {text}", file=sys.stderr)
+    """Writes a message. Where that fails, the status still tells."""
+    with contextlib.suppress(OSError):
+        print(f"scan_files: {text}", file=sys.stderr)
+
+
+def end_messages() -> None:
+    """Drops the messages that cannot be written: the end of the program would try again, and change the status."""
+    try:
+        sys.stderr.flush()
+    except OSError:
+        os.dup2(os.open(os.devnull, os.O_WRONLY), sys.stderr.fileno())
 
 
 def scan_or_say(given: argparse.Namespace, out: Output) -> int:
@@ -273,7 +287,8 @@ def scan_or_say(given: argparse.Namespace, out: Output) -> int:
     return 2
 
 
-def main() -> int:
+def run() -> int:
+    """Scans the files that the words name, and gives the status."""
     given = arguments()
     try:
         out = Output()
@@ -288,6 +303,20 @@ def main() -> int:
             # What is still to be written would fail again at the end of the program.
             os.dup2(os.open(os.devnull, os.O_WRONLY), sys.stdout.fileno())
         return 2
+
+
+def main() -> int:
+    if sys.stderr is None:
+        # `print` would write messages to standard output instead, among the hits.
+        sys.stderr = open(os.devnull, "w")
+    try:
+        return run()
+    except Exception:
+        # Python would end with the status 1, which says that there are no hits.
+        say(traceback.format_exc())
+        return 2
+    finally:
+        end_messages()
 
 
 if __name__ == "__main__":

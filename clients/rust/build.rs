@@ -20,7 +20,11 @@ fn main() {
             println!("cargo:rerun-if-changed={}", folder.join(if is_static { ARCHIVE } else { SHARED }).display());
             println!("cargo:rustc-link-lib={}=fiolargu", if is_static { "static" } else { "dylib" });
         }
-        None => println!("cargo:rustc-link-lib=dylib=fiolargu"),
+        None => {
+            // A file that is missing counts as changed, so the next build looks again.
+            near().iter().for_each(|lib| println!("cargo:rerun-if-changed={}", lib.join(SHARED).display()));
+            println!("cargo:rustc-link-lib=dylib=fiolargu");
+        }
     }
 }
 
@@ -29,9 +33,13 @@ fn folder() -> Option<PathBuf> {
     if let Some(given) = env::var_os("FIOLARGU_LIB_DIR") {
         return Some(PathBuf::from(given));
     }
-    let own = PathBuf::from(env::var_os("CARGO_MANIFEST_DIR")?);
-    let near = own.ancestors().take(6).map(|above| above.join("lib")).find(|lib| has_library(lib));
-    near.or_else(by_pkg_config)
+    near().into_iter().find(|lib| has_library(lib)).or_else(by_pkg_config)
+}
+
+/// Where the library may lie near this crate.
+fn near() -> Vec<PathBuf> {
+    let own = env::var_os("CARGO_MANIFEST_DIR").map(PathBuf::from).unwrap_or_default();
+    own.ancestors().take(6).map(|above| above.join("lib")).collect()
 }
 
 /// Whether a folder has the library.

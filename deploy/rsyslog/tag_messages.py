@@ -78,6 +78,8 @@ def arguments() -> argparse.Namespace:
     given = parser.parse_args()
     if (given.plan is None) == (given.words is None):
         parser.error("WORDS or --plan FILE is needed, and not both")
+    if given.plan is not None and given.ignore_case:
+        parser.error("-i is for WORDS: the plan file says itself whether case is ignored")
     return given
 
 

@@ -212,6 +212,8 @@ def alone():
         for words in [], ["words", "--plan", "plan"]:
             status, _, message = run(*words)
             yield f"by {words}", (status, "not both" in message), (2, True)
+        status, _, message = run("-i", "--plan", "plan")
+        yield "a plan and -i", (status, "-i is for WORDS" in message), (2, True)
 
 
 def with_library():

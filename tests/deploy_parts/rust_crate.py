@@ -1,5 +1,6 @@
 """clients/rust: its tests and the examples of its documentation, by cargo, over the archive and the shared library."""
 
+import glob
 import os
 import re
 import shutil
@@ -42,4 +43,24 @@ def crate():
             yield f"the program of LIBRARY.md over {name}: {done.stderr[-300:]}", done.stdout, want
 
 
-TESTS = (crate,)
+def built_before():
+    """A build without the library looks again once the library is there. The library is a stand-in."""
+    with tempfile.TemporaryDirectory() as folder:
+        copy, lib = os.path.join(folder, "clients", "rust"), os.path.join(folder, "lib")
+        shutil.copytree(CRATE, copy, ignore=shutil.ignore_patterns("target", "Cargo.lock"))
+        env = {**os.environ, "CARGO_TARGET_DIR": os.path.join(folder, "target"), "PKG_CONFIG_LIBDIR": folder}
+        env.pop("FIOLARGU_LIB_DIR", None)
+        for is_there in False, True:
+            if is_there:
+                os.mkdir(lib)
+                open(os.path.join(lib, "libfiolargu.so"), "wb").close()
+            words = ["cargo", "build", "--offline", "--quiet"]
+            done = subprocess.run(words, cwd=copy, env=env, capture_output=True, text=True)
+            outputs = glob.glob(os.path.join(folder, "target", "debug", "build", "fiolargu-*", "output"))
+            with open(outputs[0]) as file:
+                got = f"rustc-link-search=native={lib}\n" in file.read()
+            got = done.returncode, len(outputs), got
+            yield f"a build, library {is_there}: {done.stderr[-300:]}", got, (0, 1, is_there)
+
+
+TESTS = (crate, built_before)

@@ -1,12 +1,16 @@
-"""clients/python over pipes and connections to `scand`, with lost connections, and with servers that reply wrongly."""
+"""clients/python over pipes and connections to `scand`, with lost connections, signals, servers that reply wrongly."""
 
+import linecache
 import os
 import pickle
 import random
+import signal
 import socket
 import subprocess
 import sys
 import tempfile
+import time
+from unittest import mock
 
 from cases import session_cases
 from cases.canned_replies import CANNED
@@ -473,6 +477,152 @@ def inside_scans():
         yield "a stream that took the number of a closed one", (second.number, second.feed(b"ushers")), (0, FOUND)
 
 
+class Ring(Exception):
+    """What a handler of a signal raises."""
+
+
+def rung(call, *words, fault=Ring):
+    """The name of the exception of a call, in whose midst a signal raises this fault."""
+    def rings(*_):
+        raise fault
+
+    before = signal.signal(signal.SIGALRM, rings)
+    signal.setitimer(signal.ITIMER_REAL, 0.1)
+    try:
+        return fault_of(call, *words)[0]
+    finally:
+        signal.setitimer(signal.ITIMER_REAL, 0)
+        signal.signal(signal.SIGALRM, before)
+
+
+def interrupted():
+    """A signal ends a call at once. No later call takes the replies that come then, and no hit is lost."""
+    part, rest = b"ushers" + bytes(65530), b" she"
+    for fault in Ring, TimeoutError:
+        name, (near, far) = fault.__name__, socket.socketpair()
+        with near, far:
+            client = over(near, 5)
+            far.sendall(b"".join(replies()[:1]))
+            plan = client.publish(PRONOUNS)
+            yield f"an open ended by {name}", rung(client.open, plan, fault=fault), name
+            yield f"its client, {name}", (client.is_open, fault_of(client.open, plan)[0]), (False, "ConnectionLost")
+        near, far = socket.socketpair()
+        with near, far:
+            far.sendall(b"".join(replies()))
+            client = over(near, 5)
+            stream = client.open(client.publish(PRONOUNS))
+            yield f"a feed ended by {name}", (rung(stream.feed, b"ushers", fault=fault), client.is_open), (name, False)
+            yield f"its stream, {name}", fault_of(stream.feed, b"ushers")[0], "ConnectionLost"
+        near, far = socket.socketpair()
+        with near, far:
+            far.sendall(b"".join(replies()))
+            client = over(near, 5)
+            hits = client.open(client.publish(PRONOUNS)).scan([b"ushers"])
+            far.sendall(b"".join(sessions.hits_replies(0, FOUND)))
+            yield f"the first hit, {name}", next(hits), FOUND[0]
+            yield f"a close ended by {name}", (rung(hits.close, fault=fault), client.is_open), (name, False)
+        for piece, before, after in (
+            (b"ushers", replies(), replies(b"ushers", rest)),
+            (part + rest, replies(part), replies(bytes(3), rest, b"")),
+        ):
+            near, far = socket.socketpair()
+            with near, far:
+                far.sendall(b"".join(before))
+                turns = iter([lambda: over(near, 5), lambda: sends(after)])
+                with Resumed(lambda: next(turns)(), PRONOUNS, tries=1, pause=0) as stream:
+                    size = len(piece)
+                    got = rung(stream.feed, piece, fault=fault), stream.taken, stream.losses
+                    yield f"a stream that resumes, {size} bytes, ended by {name}", got, (name, size, 0)
+                    want = plain_hits(PRONOUNS, False, b"ushers she" if size == 6 else piece)
+                    got = fault_of(stream.feed, rest if size == 6 else b""), stream.losses
+                    yield f"the hits after it, {size} bytes, {name}", got, (("nothing", want), 0)
+        for call in lambda: Client.connect("127.0.0.1", 7000), lambda: Resumed(dial_7000, PRONOUNS, pause=0).feed(b"a"):
+            with mock.patch.object(socket, "create_connection", lambda *_: time.sleep(5)):
+                yield f"a connection ended by {name}", rung(call, fault=fault), name
+
+
+def dial_7000():
+    return Client.connect("127.0.0.1", 7000)
+
+
+class At:
+    """Raises an exception at a line of the client, the first that is run or a later one, while a call runs."""
+
+    FOLDER = os.path.join(PYTHON, "fiolargu", "")
+
+    def __init__(self, place, call):
+        self.left, self.call = place, call
+
+    def __call__(self, frame, event, _):
+        if frame.f_code.co_filename.startswith(self.FOLDER):
+            # Signals are not handled between the statement before a `yield` and the `yield`.
+            if event == "line" and not self.line(frame).startswith("yield"):
+                self.left -= 1
+                if self.left == -1:
+                    raise Ring
+            return self
+        return None
+
+    @staticmethod
+    def line(frame):
+        """The text of the line that comes next."""
+        return linecache.getline(frame.f_code.co_filename, frame.f_lineno).strip()
+
+    def is_passed(self):
+        """Makes the call, and tells whether it ended before its line came."""
+        before = sys.gettrace()
+        sys.settrace(self)
+        try:
+            self.call()
+        except Ring:
+            pass
+        finally:
+            sys.settrace(before)
+        return self.left >= 0
+
+
+def interrupted_anywhere():
+    """An exception at any line of the client: what comes after it is right, or the client is closed."""
+    wrong, place, is_over = [], 0, False
+    while not is_over:
+        with Client.spawn(SERVER) as client:
+            def talks():
+                with client.open(client.publish(PRONOUNS)) as stream:
+                    stream.feed(b"ushers")
+
+            is_over, is_open = At(place, talks).is_passed(), client.is_open
+            got = fault_of(lambda: client.open(client.publish(PRONOUNS)).feed(b"ushers"))
+        if got != (("nothing", FOUND) if is_open else ("ConnectionLost", None)):
+            wrong.append((place, is_open, got))
+        place += 1
+    yield f"a client, {place} lines", (wrong, place > 100), ([], True)
+    wrong, place, is_over = [], 0, False
+    while not is_over:
+        found, text = [], b"ushers ushers"
+        with Resumed(Cut().dial, PRONOUNS, tries=1) as stream:
+            stream.feed(text[:2])
+            is_over = At(place, lambda: found.extend(stream.feed(text[2:]))).is_passed()
+            got = fault_of(lambda: [*found, *stream.feed(text[stream.taken :])])
+        if got != ("nothing", plain_hits(PRONOUNS, False, text)):
+            wrong.append((place, got))
+        place += 1
+    yield f"a stream that resumes, {place} lines", (wrong, place > 100), ([], True)
+
+
+def closed_streams():
+    """A closed stream is not taken for the one that has its number now."""
+    opened, closed = sessions.open_stream(0, 0), sessions.close(0)
+    requests = sessions.publish(PRONOUNS), opened, closed, opened, sessions.feed(0, b"ushers")
+    with sends(sessions.conversation(b"".join(requests))[0]) as client:
+        plan = client.publish(PRONOUNS)
+        first = client.open(plan)
+        first.close()
+        second = client.open(plan)
+        for name, call in ("feed", lambda: first.feed(b"x")), ("plan", first.show_plan), ("close", first.close):
+            yield f"{name} of a closed stream", fault_of(call), ("NoSuchStream", 0)
+        yield "the stream that has its number", second.feed(b"ushers"), FOUND
+
+
 def by_number():
     """Streams by the number of a plan, which the client checks."""
     with Server(6) as server, server.client() as first:
@@ -532,5 +682,5 @@ def files():
 
 TESTS = (
     frames, talks, refusals, random_talks, canned, names, lost_everywhere, lost_often, resuming, faults, pieces_that_fail,
-    inside_scans, files,
+    inside_scans, interrupted, interrupted_anywhere, closed_streams, files,
 )

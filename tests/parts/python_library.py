@@ -21,8 +21,9 @@ from support import clibrary
 from support.programs import LITPLAN, TOP, version
 from support.pyclient import PRONOUNS, PYTHON, fault_of, plain_hits
 
-from fiolargu import Hit, Hits, Plan, check, library, library_version
+from fiolargu import Hit, Hits, Plan, Refusal, check, library, library_version
 from fiolargu import plan as plans
+from fiolargu.errors import refusal
 
 MIB = 1 << 20
 # Calls of the library that make a handle, and the place of the handle in their words.
@@ -357,6 +358,57 @@ def loading():
         yield "a file that is no library", (type(fault).__name__, __file__ in str(fault)), ("LibraryMissing", True)
 
 
+def near():
+    """A library near the package is passed over where another user could have put it there."""
+    with tempfile.TemporaryDirectory() as top:
+        package, lib = os.path.join(top, "clients", "python", "fiolargu"), os.path.join(top, "lib")
+        path = os.path.join(lib, library.NAME)
+        os.makedirs(package)
+
+        def found():
+            with mock.patch.object(library, "__file__", os.path.join(package, "library.py")):
+                return [name for name in library._near() if name.startswith(top)]
+
+        yield "no library", found(), []
+        os.mkdir(lib)
+        open(path, "wb").close()
+        for place in top, lib, path:
+            os.chmod(place, 0o755)
+        yield "a library of this user", found(), [path]
+        for place in top, lib, path:
+            for mode in 0o777, 0o1777:
+                os.chmod(place, mode)
+                yield f"{place[len(top):]} that all can write, {mode:o}", found(), []
+            os.chmod(place, 0o775)
+            yield f"{place[len(top):]} that a group can write", found(), [path]
+            real = os.stat
+
+            def stat_of(name, *words, place=place, **named):
+                is_there = real(name, *words, **named)
+                others = [12345 if at == 4 and name == place else value for at, value in enumerate(is_there[:10])]
+                return os.stat_result(others)
+
+            with mock.patch.object(os, "stat", stat_of):
+                yield f"{place[len(top):]} of another user", found(), []
+
+
+def interrupted():
+    """A feed that an exception ends closes its stream, except a refusal, which took nothing."""
+    for fault, want in (
+        (KeyboardInterrupt(), 1), (TimeoutError("of a signal"), 1), (MemoryError(), 1),
+        (refusal(Refusal.OUT_OF_MEMORY), 1), (refusal(Refusal.STREAM_TOO_LONG), 0), (refusal(Refusal.NULL_HANDLE), 0),
+    ):
+        stream = plans.Stream.__new__(plans.Stream)
+        calls = stream._library = mock.MagicMock()
+        stream._lock, stream._handle, stream._room = threading.Lock(), library.Handle(), plans._Room(1)
+        calls.stream_feed.side_effect = fault
+        try:
+            got = stream.feed(b"ushers")
+        except BaseException as raised:
+            got = raised
+        yield f"a feed that {fault!r} ends", (got is fault, calls.stream_close.call_count), (True, want)
+
+
 def with_library(test):
     """A test that yields nothing where there is no library."""
     def tested():
@@ -372,4 +424,4 @@ def there():
 
 
 NEEDING = worked, bulk, dense, random_scans, buffers, errors, starved, plan_files, threads, documented
-TESTS = (there, missing, loading, *map(with_library, NEEDING))
+TESTS = (there, missing, loading, near, interrupted, *map(with_library, NEEDING))

@@ -1,4 +1,4 @@
-"""clients/python/scan_files.py: names of hits, lists in hexadecimal, lists for several plans, loaded plans, failing outputs."""
+"""clients/python/scan_files.py: names, lists in hexadecimal and for several plans, loaded plans, failing outputs."""
 
 import io
 import os
@@ -137,7 +137,13 @@ def loaded():
             yield "a plan that is not there, with a list", scanned(folder, *port, "1", "-f", "words", "text"), want
             want = 2, b"", b"scan_files: plan -1: the number of a plan is from 0 to 2^64 - 1\n"
             yield "a plan that cannot be", scanned(folder, "--stdio", SCAND, "--plan", "-1", "text"), want
-            for words, part in (port[:2], b"is needed, or --plan NUMBER"), ((*port, "0", "--names"), b"is needed for --names"):
+            first.asks(sessions.publish(PRONOUNS, True))
+            want = 0, lines_of(plain_hits(PRONOUNS, True, b"ushers")), b""
+            yield "a plan and its list, case ignored", scanned(folder, *port, "1", "-i", "-f", "words", "text"), want
+            for words, part in (
+                (port[:2], b"is needed, or --plan NUMBER"), ((*port, "0", "--names"), b"is needed for --names"),
+                ((*port, "1", "-i"), b"-i is for a list"),
+            ):
                 got = scanned(folder, *words, "text")
                 yield f"no list: {part}", (*got[:2], part in got[2]), (2, b"", True)
 
@@ -170,4 +176,26 @@ def outputs():
         yield "a name that is not UTF-8", scanned(folder, *words[:4], b"caf\xe9", "words"), want
 
 
-TESTS = (names, hexadecimal, long_lists, lost, loaded, outputs)
+def messages():
+    """Messages that cannot be written cost no file, no hit and no status, and stay out of the output."""
+    with laid_out(words=b"he", text=b"ushers") as folder:
+        own = "--stdio", SCAND, "-f"
+        for words, want in (
+            ((*own, "words", "none", "text", "none"), b"text:0 4\n"),
+            ((*own, "none", "text"), b""),
+            (("--stdio", "/none", "-f", "words", "text"), b""),
+            ((*own, "words"), b""),
+        ):
+            for script in '"$0" "$@" 2>&-', '"$0" "$@" 2>/dev/full', 'exec 2> >(:); wait $!; "$0" "$@"':
+                started = ["bash", "-c", script, sys.executable, SCRIPT, *words]
+                how = {"stdout": subprocess.PIPE, "stderr": subprocess.DEVNULL}
+                done = subprocess.run(started, cwd=folder, timeout=60, **how)
+                yield f"{words[3:]}: {script}", (done.returncode, done.stdout), (2, want)
+        broken = "import sys, scan_files; scan_files.scan_by_plans = None; sys.exit(scan_files.main())"
+        started = [sys.executable, "-c", broken, *own, "words", "text"]
+        env = {**os.environ, "PYTHONPATH": PYTHON}
+        done = subprocess.run(started, cwd=folder, env=env, capture_output=True, timeout=60)
+        yield "a fault of the script", (done.returncode, done.stdout, b"TypeError" in done.stderr), (2, b"", True)
+
+
+TESTS = (names, hexadecimal, long_lists, lost, loaded, outputs, messages)

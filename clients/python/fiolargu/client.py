@@ -8,7 +8,8 @@ import selectors
 import socket
 import struct
 import subprocess
-from typing import BinaryIO, Callable, Dict, Generator, Iterable, List, Optional, Sequence, Tuple, Union
+import time
+from typing import BinaryIO, Callable, Dict, Generator, Iterable, Iterator, List, Optional, Sequence, Tuple, Union
 
 from .errors import BadFrame, BadReply, ConnectionLost, FiolarguError, NotStarted, Refusal, Refused, TimedOut, refusal
 from .frames import (
@@ -44,8 +45,14 @@ class Link:
         self.is_writing = is_writing
 
 
+def _is_callers(fault: OSError) -> bool:
+    """Whether a fault is the caller's, raised by a handler of a signal. Those of system calls have numbers."""
+    return isinstance(fault, TimeoutError) and fault.errno is None
+
+
 class Client:
-    """One connection to a server. Made by `connect` or `spawn`; a context manager that closes it."""
+    """One connection to a server. Made by `connect` or `spawn`; a context manager that closes it. An exception that
+    comes in the midst of a call, such as KeyboardInterrupt, closes it too."""
 
     def __init__(self, link: Link, leave: Callable[[], None], timeout: Optional[float], name: str = "the server") -> None:
         self.timeout, self.name = timeout, name
@@ -61,13 +68,17 @@ class Client:
         name = f"{host}:{port}"
         if not 0 < port < 65536:
             raise ValueError(f"{name}: a port is a number from 1 to 65535")
+        began = time.monotonic()
         try:
             peer = socket.create_connection((host, port), timeout)
             peer.setsockopt(socket.IPPROTO_TCP, socket.TCP_NODELAY, 1)
             peer.setblocking(False)
-        except socket.timeout as fault:
-            raise TimedOut(f"{name} did not answer for {timeout} seconds") from fault
         except OSError as fault:
+            # The fault of a peer that does not answer has no number either, but it does not come before its time.
+            if _is_callers(fault) and (timeout is None or time.monotonic() < began + timeout):
+                raise
+            if isinstance(fault, socket.timeout):
+                raise TimedOut(f"{name} did not answer for {timeout} seconds") from fault
             raise ConnectionLost(f"{name}: {fault.strerror or fault}") from fault
         link = Link(peer.recv, peer.send, peer.fileno(), peer.fileno())
         return cls(link, peer.close, timeout, name)
@@ -81,6 +92,8 @@ class Client:
         try:
             child = subprocess.Popen(words, stdin=subprocess.PIPE, stdout=subprocess.PIPE, stderr=stderr, bufsize=0)
         except OSError as fault:
+            if _is_callers(fault):
+                raise
             raise NotStarted(f"{words[0]}: {fault.strerror or fault}") from fault
         assert child.stdin is not None and child.stdout is not None
         reader, writer = child.stdout.fileno(), child.stdin.fileno()
@@ -97,7 +110,7 @@ class Client:
 
     @property
     def is_open(self) -> bool:
-        """Whether nobody has closed the connection, and no fault has ended it."""
+        """Whether nobody has closed the connection, and no fault or exception has ended it."""
         return self._is_open
 
     def close(self) -> None:
@@ -119,20 +132,34 @@ class Client:
         with. The stream gets `number`, by default the first free number. ValueError where a number does not fit a frame."""
         if number is None:
             number = next(free for free in range(len(self._streams) + 1) if free not in self._streams)
-        self._ask(open_frame(number, plan.number if isinstance(plan, Plan) else plan), number, Reply.OPENED)
-        self._streams[number] = Stream(self, number, plan if isinstance(plan, Plan) else None)
-        return self._streams[number]
+        request = open_frame(number, plan.number if isinstance(plan, Plan) else plan)
+        self._expect_idle()
+        with self._or_closed():
+            self._ask(request, number, Reply.OPENED)
+            stream = self._streams[number] = Stream(self, number, plan if isinstance(plan, Plan) else None)
+        return stream
 
     def _ask(self, request: bytes, stream: int, kind: Reply) -> bytes:
         """The payload of the only reply to a request."""
-        self._send(request)
-        return self._expect(stream, (kind,))[1]
+        self._expect_idle()
+        with self._or_closed():
+            self._send(request)
+            return self._expect(stream, (kind,))[1]
+
+    @contextlib.contextmanager
+    def _or_closed(self) -> Iterator[None]:
+        """Closes the connection where the body of a `with` raises anything but a refusal, such as the exception of a
+        signal: the reply that is left unread would be taken for the reply to a later request."""
+        try:
+            yield
+        except Refused:
+            raise
+        except BaseException:
+            self.close()
+            raise
 
     def _send(self, request: bytes) -> None:
         """Appends a request to the bytes to send."""
-        self._expect_open()
-        if self._is_scanning:
-            raise RuntimeError("a scan of this client has not ended: take its hits to the end, or close it")
         self._sent += request
 
     def _expect_open(self) -> None:
@@ -140,10 +167,11 @@ class Client:
         if not self._is_open:
             raise ConnectionLost(f"the connection to {self.name} is closed")
 
-    def _begin(self) -> None:
-        """Begins a scan."""
-        self._send(b"")
-        self._is_scanning = True
+    def _expect_idle(self) -> None:
+        """ConnectionLost where the connection is closed, and RuntimeError where a scan has not ended."""
+        self._expect_open()
+        if self._is_scanning:
+            raise RuntimeError("a scan of this client has not ended: take its hits to the end, or close it")
 
     def _expect(self, stream: int, kinds: Tuple[Reply, ...]) -> Tuple[int, bytes]:
         """The kind and payload of the next reply, which is to be of that stream and one of those kinds."""
@@ -194,6 +222,8 @@ class Client:
         except BlockingIOError:
             pass
         except OSError as fault:
+            if _is_callers(fault):
+                raise
             raise self._closed(ConnectionLost(f"{self.name}: {fault.strerror or fault}")) from fault
 
     def _write(self) -> None:
@@ -204,7 +234,9 @@ class Client:
             del self._sent[:taken]
         except BlockingIOError:
             pass
-        except OSError:
+        except OSError as fault:
+            if _is_callers(fault):
+                raise
             self._can_write = False
 
     def _read(self) -> None:
@@ -259,27 +291,38 @@ class Stream:
         """An iterator over the hits, which feeds the pieces as it is read. Up to `ahead` Feeds are on their way at once: it
         takes that many pieces before it gives the hits of the first. With 1 it takes a piece after the reply to the piece
         before. The client serves no other call until the iterator is at its end or closed. Closing it drops the hits of
-        what was fed. An exception of `pieces` is raised after the hits of the pieces before it."""
-        given = Pieces(pieces)
-        source, awaited, is_over = iter(given), 0, False
-        self.client._begin()
+        what was fed. An exception of `pieces` is raised after the hits of the pieces before it. Any other exception,
+        such as of a signal, closes the client."""
+        given = pieces if isinstance(pieces, Pieces) else Pieces(pieces)
+        source, awaited, most, is_over = iter(given), 0, max(ahead, 1), False
+        self._expect_own()
         try:
-            while awaited or not is_over:
-                while not is_over and awaited < max(ahead, 1):
-                    piece = next(source, None)
-                    is_over = piece is None
-                    if piece is not None:
-                        self.client._sent += feed_frame(self.number, piece)
-                        awaited += 1
-                if awaited:
-                    is_fed, hits = self._answer()
-                    awaited -= is_fed
-                    yield from hits
-        except Refused:
-            awaited -= 1
+            try:
+                self.client._is_scanning = True
+                while awaited or not is_over:
+                    while not is_over and awaited < most:
+                        piece = next(source, None)
+                        is_over = piece is None
+                        if piece is not None:
+                            self.client._sent += feed_frame(self.number, piece)
+                            awaited += 1
+                    if awaited:
+                        is_fed, hits = self._answer()
+                        awaited -= is_fed
+                        yield from hits
+            except Refused:
+                self._drain(awaited - 1)
+                raise
+            except GeneratorExit:
+                self._drain(awaited)
+                raise
+            self.client._is_scanning = False
+        except (Refused, GeneratorExit):
             raise
-        finally:
-            self._drain(awaited)
+        except BaseException:
+            # It does not wait for the replies to what was fed: they may never come, and their hits would be lost.
+            self.client.close()
+            raise
         if given.fault is not None:
             raise given.fault
 
@@ -301,8 +344,16 @@ class Stream:
                     awaited -= 1
         self.client._is_scanning = False
 
+    def _expect_own(self) -> None:
+        """NoSuchStream where the stream was closed: another stream may have its number now. And what `_expect_idle`
+        raises."""
+        self.client._expect_idle()
+        if self.client._streams.get(self.number) is not self:
+            raise refusal(Refusal.NO_SUCH_STREAM, 0, self.number)
+
     def show_plan(self) -> PlanShown:
         """What the server reports of the stream's plan."""
+        self._expect_own()
         payload = self.client._ask(frame(Request.SHOW_PLAN, self.number), self.number, Reply.PLAN)
         flags, literals, price, runs = struct.unpack_from(">BHQB", payload)
         ends, buckets = struct.unpack_from(f">{runs}H", payload, 12), 16 if flags & SIXTEEN_BUCKETS else 8
@@ -310,5 +361,7 @@ class Stream:
 
     def close(self) -> None:
         """Closes the stream. Its number is free again."""
-        self.client._ask(frame(Request.CLOSE, self.number), self.number, Reply.CLOSED)
-        self.client._streams.pop(self.number, None)
+        self._expect_own()
+        with self.client._or_closed():
+            self.client._ask(frame(Request.CLOSE, self.number), self.number, Reply.CLOSED)
+            self.client._streams.pop(self.number, None)

@@ -1,7 +1,7 @@
 """The C library, loaded by ctypes: its calls, and the bytes that they read.
 
 The library is the file that FIOLARGU_LIBRARY names, or else `libfiolargu.so.0` where the loader finds it, or else in the
-folder lib/ of the prefix or of the repository that this package lies in.
+folder lib/ of the prefix or of the repository that this package lies in, where no other user can write.
 """
 
 from __future__ import annotations
@@ -9,6 +9,7 @@ from __future__ import annotations
 import ctypes
 import functools
 import os
+import stat
 from typing import TYPE_CHECKING, Any, Callable, Iterator, List, Optional, Tuple, Union
 
 from .errors import LibraryMissing, refusal
@@ -112,17 +113,30 @@ def address_of(data: bytes) -> int:
 
 
 def _near() -> Iterator[str]:
-    """Where the library may lie near this package: in its repository, or in the prefix that it was installed into."""
+    """Where the library lies near this package: in its repository, or in the prefix that it was installed into. Files
+    that another user could have put there are passed over, as in /tmp/lib."""
     folder = os.path.dirname(os.path.abspath(__file__))
     for _ in range(6):
         folder = os.path.dirname(folder)
-        yield os.path.join(folder, "lib", NAME)
+        lib = os.path.join(folder, "lib")
+        path = os.path.join(lib, NAME)
+        if all(map(_is_ours, (folder, lib, path))):
+            yield path
+
+
+def _is_ours(path: str) -> bool:
+    """Whether a file or folder is there, belongs to this user or to root, and not everybody can write it."""
+    try:
+        found = os.stat(path)
+    except OSError:
+        return False
+    return found.st_uid in (0, os.geteuid()) and not found.st_mode & stat.S_IWOTH
 
 
 def _loaded(given: Optional[str]) -> ctypes.CDLL:
     """The library's file, opened: the one that was given, or the one that is found."""
     cause: Optional[OSError] = None
-    for path in [given] if given else [NAME, *filter(os.path.exists, _near())]:
+    for path in [given] if given else [NAME, *_near()]:
         try:
             return ctypes.CDLL(path)
         except OSError as fault:

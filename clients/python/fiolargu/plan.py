@@ -8,7 +8,7 @@ import os
 import threading
 from typing import TYPE_CHECKING, Callable, Generator, Iterable, Iterator, List, Optional, Tuple, Type, TypeVar, Union
 
-from .errors import Refusal, refusal
+from .errors import Refusal, Refused, refusal
 from .frames import IGNORES_CASE, SIXTEEN_BUCKETS, texts
 from .hits import SIZE, Hit, Hits
 from .library import NO_LITERAL, Borrowed, Handle, Info, answered, library, pieces
@@ -301,8 +301,8 @@ class Stream:
 
     def feed(self, piece: Bytes) -> Hits:
         """Takes the next bytes, and gives the hits that end in them. Raises StreamTooLong where the position would pass
-        2^64 - 1, and then the stream is as before; OutOfMemory; NullHandle. After OutOfMemory, or a MemoryError of Python,
-        the stream is closed, since it may have taken a part of the piece."""
+        2^64 - 1, and then the stream is as before; OutOfMemory; NullHandle. After OutOfMemory, or any other exception
+        in its midst, such as KeyboardInterrupt, the stream is closed, since it may have taken a part of the piece."""
         records, taken, room, handle = bytearray(), 0, self._room, ctypes.byref(self._handle)
         with Borrowed(piece) as text, self._lock:
             try:
@@ -315,8 +315,9 @@ class Stream:
                     taken += room.place.value
                     if taken == text.size:
                         return Hits(records)
-            except MemoryError:
-                self._library.stream_close(handle)
+            except BaseException as fault:
+                if not isinstance(fault, Refused) or isinstance(fault, MemoryError):
+                    self._library.stream_close(handle)
                 raise
 
     def scan(self, pieces: Iterable[Bytes]) -> Iterator[Hit]:

@@ -2,7 +2,6 @@
 
 from __future__ import annotations
 
-import contextlib
 import itertools
 import time
 from collections import deque
@@ -28,8 +27,9 @@ class Resumed:
     After `tries` connections in a row that bring it no further, it raises the last fault, and again at each later call.
     Between them it waits for `pause` seconds, and twice as long each time, up to two seconds.
 
-    After any other fault the stream goes on. The next call first feeds the bytes that were taken and not reported as fed,
-    and gives the hits that were not given. `taken` is the position of the byte to pass next.
+    After any other fault the stream goes on, and after the exception of a signal. The next call first feeds the bytes
+    that were taken and not reported as fed, and gives the hits that were not given. `taken` is the position of the byte
+    to pass next.
     """
 
     def __init__(
@@ -49,8 +49,10 @@ class Resumed:
         self._stream: Optional[Stream] = None
         self._plan: Union[Plan, int, None] = number
         self._base, self._lead = 0, b""
-        self._unfed: Deque[bytes] = deque()
+        # An exception of a signal may come between any two statements, so what belongs together is set by one.
+        self._unfed: List[bytes] = []
         self._told = (0, 0)
+        self._kept: Deque[Hit] = deque()
         self._failed, self._place_failed = 0, 0
         self._fault: Optional[FiolarguError] = None
 
@@ -73,15 +75,26 @@ class Resumed:
 
     def feed(self, piece: bytes) -> List[Hit]:
         """Feeds a piece of any length, and gives all hits that end in it."""
-        return list(self.scan([piece]))
+        found: List[Hit] = []
+        try:
+            found.extend(self.scan([piece]))
+            return found
+        except BaseException:
+            # The next call gives them.
+            self._kept = deque([*found, *self._kept])
+            raise
 
     def scan(self, pieces: Iterable[bytes], ahead: int = 4) -> Generator[Hit, None, None]:
         """As `Stream.scan`, over as many connections as it takes."""
-        if self._fault is not None:
-            raise self._fault
         given = Pieces(pieces)
         source, is_over = self._noted(iter(given)), False
         try:
+            while self._kept:
+                hit = self._kept[0]
+                del self._kept[0]
+                yield hit
+            if self._fault is not None:
+                raise self._fault
             while not is_over:
                 try:
                     yield from self._hits(self._taken_up(), source, ahead)
@@ -93,6 +106,15 @@ class Resumed:
         except GeneratorExit:
             # Closing drops the hits of the pieces that were taken. A fault drops none: the next call gives them.
             self._told = max(self._told, (self.taken, len(self.literals)))
+            self._kept.clear()
+            raise
+        except FiolarguError:
+            raise
+        except BaseException:
+            # A connection that the exception of a signal closed was not lost.
+            if self._client is not None and not self._client.is_open:
+                self._note_place()
+                self.close()
             raise
         finally:
             self._note_place()
@@ -101,26 +123,49 @@ class Resumed:
 
     def restart(self) -> None:
         """Begins a new stream by the same list, over the same connection while that holds. Its place is 0."""
-        # First the calls that may raise: a scan that has not ended makes them raise, and goes on.
-        if self._client is not None and self._stream is not None and self._plan is not None:
+        client, stream = self._client, self._stream
+        opened: Optional[Stream] = None
+        if client is not None and stream is not None and self._plan is not None and client.is_open:
+            # A scan that has not ended makes this raise, and goes on.
+            client._expect_idle()
+            self._note_place()
+            # Where the calls below raise anything else, the next call goes on with the old stream, on a new connection.
+            self._stream = None
             try:
-                self._stream.close()
-                self._stream = self._client.open(self._plan)
+                stream.close()
+                opened = client.open(self._plan)
             except (ConnectionLost, TimedOut):
-                self.close()
-        self.place, self._lead, self._told = 0, b"", (0, 0)
-        self._failed = self._place_failed = self._base = 0
-        self._unfed.clear()
+                pass
+            except BaseException:
+                client.close()
+                raise
+        self._stream, self._base, self._unfed, self._kept, self.place, self._lead, self._told = (
+            opened, 0, [], deque(), 0, b"", (0, 0)
+        )
+        self._failed = self._place_failed = 0
 
     def _hits(self, stream: Stream, source: Iterator[bytes], ahead: int) -> Iterator[Hit]:
         """The hits of one connection that were not given yet."""
-        hits = stream.scan(itertools.chain(list(self._unfed), source), ahead)
-        with contextlib.closing(hits):
+        given = Pieces(itertools.chain(list(self._unfed), source))
+        hits = stream.scan(given, ahead)
+        try:
             for literal, end in hits:
-                found = end + self._base, literal
-                if found > self._told:
-                    self._told = found
-                    yield Hit(literal, found[0])
+                hit = Hit(literal, end + self._base)
+                if (hit.end, literal) > self._told:
+                    self._told = hit.end, literal
+                    yield hit
+        except GeneratorExit:
+            hits.close()
+            raise
+        except (ConnectionLost, TimedOut):
+            # The exception of a signal may have come before, while a piece was taken, and ended the pieces.
+            if given.fault is not None:
+                raise given.fault
+            raise
+        except BaseException as fault:
+            # An exception that came here ends the scan too, as if it had come there: without a wait for further hits.
+            hits.throw(fault)
+            raise
 
     def _noted(self, source: Iterator[bytes]) -> Iterator[bytes]:
         """The pieces, each kept until it is reported as fed."""
@@ -133,13 +178,13 @@ class Resumed:
         """Moves on to the last position reported as fed."""
         place = self.place if self._stream is None else self._base + self._stream.place
         while self._unfed and self.place + len(self._unfed[0]) <= place:
-            piece = self._unfed.popleft()
-            self.place += len(piece)
-            known = self._lead + piece
-            self._lead = known[max(len(known) - len(self.literals[-1]) + 1, 0) :]
+            known = self._lead + self._unfed[0]
+            lead = known[max(len(known) - len(self.literals[-1]) + 1, 0) :]
+            self.place, self._lead, self._unfed = self.place + len(self._unfed[0]), lead, self._unfed[1:]
 
     def _taken_up(self) -> Stream:
         """The stream, on a new connection where there is none, fed with the lead."""
+        self._note_place()
         if self._stream is None:
             client = self.dial()
             try:
