@@ -36,6 +36,7 @@ SHORT = 200             # and those of 2 and 3 bytes
 LONG_POOL = 5000        # the same for long lists
 LONG_SHORT = 500
 RARE, FREQUENT = 2, 20  # a rare literal occurs at most, a frequent one at least so often in the sample of a megabyte
+ALIKE = "addresses of one domain"
 NO_SOURCE = {"test", "tests", "site-packages", "dist-packages", "__pycache__"}
 
 
@@ -230,8 +231,9 @@ class Search(Row):
         self.group, self.literals, self.reads = group, literals, reads
 
     def suits(self, program):
-        """ripgrep takes seconds for whole lines of a thousand literals, and for thousands of literals without case."""
-        most = 100 if "-x" in self.options else 1000 if "-i" in self.options else self.literals
+        """ripgrep takes seconds for whole lines of a thousand literals, for thousands of literals without case, and for a
+        thousand literals that end alike."""
+        most = 100 if "-x" in self.options or self.group == ALIKE else 1000 if "-i" in self.options else self.literals
         return not (program == "ripgrep" and self.literals > most)
 
 
@@ -340,7 +342,7 @@ class Searches:
         for count in FEWER + LONG[1:]:
             for options in ([], ["-i"]):
                 literals = draw(self.rng, count, address, lambda literal: True)
-                yield self.list_row("addresses of one domain", " ".join(["addresses: %d" % count] + options), options, path, literals)
+                yield self.list_row(ALIKE, " ".join(["addresses: %d" % count] + options), options, path, literals)
 
     def many_files(self, size):
         """The files of the source code, each by itself, and one of middling size alone."""
