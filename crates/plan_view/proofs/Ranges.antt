@@ -6,6 +6,7 @@ use Rattle.std.proofs.lemmas.Grind.{flat_map-append}
 use Rattle.std.proofs.lemmas.List.FromFn.{sum_by-map-range_with_len_more, map-range_with_len_more}
 use Rattle.plan_view.specs.Repeats.{earlier, repeat_at, repeats}
 use Rattle.plan_view.specs.Sums.{sum_below}
+use Rattle.plan_view.specs.declared.repeats.Repeat.{Repeat}
 
 -- a list is its own map
 same_map : (xs : List ℕ) → map (λ x. x) xs ≡ xs
@@ -78,5 +79,5 @@ no_repeats places = refl
 pub repeats_more : (places : List (Option ℕ)) (n : ℕ) → repeats places (n + 1) ≡ repeats places n ++ repeat_at n (earlier places n)
 unfolding repeats
 repeats_more places n =
-    let f : ℕ → List (ℕ × ℕ) = λ k. repeat_at k (earlier places k) in
+    let f : ℕ → List Repeat = λ k. repeat_at k (earlier places k) in
     ap (flat_map f) (range_more n) ∙ (flat_map-append f (range_with_len 0 n) (n ∷ []) ∙ ap (λ xs. flat_map f (range_with_len 0 n) ++ xs) (append-nil (f n)))

@@ -4,8 +4,10 @@ use Rattle.lit_base.specs.Costs.{run_cost}
 use Rattle.lit_base.specs.Literals.{Literals, lengths}
 use Rattle.lit_base.specs.declared.profile.Profile.{Profile}
 use Rattle.lit_base.specs.declared.profile.Profile.TheVariants.{Eight, Sixteen}
+use Rattle.plan_view.specs.Buckets.{buckets_of}
 use Rattle.plan_view.specs.Rows.{percent, span, total_of}
 use Rattle.plan_view.specs.Texts.{even_parts, single}
+use Rattle.plan_view.specs.declared.bucket.Bucket.{Bucket}
 
 -- a byte as XML has it
 abbrev pub xml_byte : ℕ → List ℕ
@@ -23,21 +25,21 @@ across n p = p * 640 / n
 abbrev pub height : ℕ → ℕ → ℕ
 height cost highest = cost * 200 / highest
 
--- the highest of this cost and the costs of the runs from place p on
-abbrev pub highest_cost : List ℕ → ℕ → ℕ → List ℕ → ℕ
-highest_cost ls least p [] = least
-highest_cost ls least p (q ∷ more) = highest_cost ls (max least (run_cost ls p q)) q more
+-- the highest of this cost and the costs of buckets
+abbrev pub highest_cost : List ℕ → ℕ → List Bucket → ℕ
+highest_cost ls least [] = least
+highest_cost ls least (b ∷ more) = highest_cost ls (max least (run_cost ls b.start b.end)) more
 
 -- what a bucket holds and costs
-unfoldable pub numbers_text : Literals → List ℕ → ℕ → ℕ → ℕ → List ℕ
-numbers_text l ends b p q =
-    let cost = run_cost (lengths l) p q in
-    said (codes "bucket ") (b + 1) ++ (said (codes ": literals ") (q - p) ++ (said (codes ", shortest ") (slice_index (lengths l) p)
+unfoldable pub numbers_text : Literals → List ℕ → Bucket → List ℕ
+numbers_text l ends b =
+    let cost = run_cost (lengths l) b.start b.end in
+    said (codes "bucket ") (b.number + 1) ++ (said (codes ": literals ") (b.end - b.start) ++ (said (codes ", shortest ") (slice_index (lengths l) b.start)
     ++ (said (codes ", cost ") cost ++ said (codes ", % of all ") (percent cost (total_of l ends)))))
 
 -- the title of a bucket, which shows where a pointer rests on it
-unfoldable pub title : Literals → List ℕ → ℕ → ℕ → ℕ → List ℕ
-title l ends b p q = codes "<title>" ++ (numbers_text l ends b p q ++ (flat_map xml_byte (span l p q) ++ codes "</title>\n"))
+unfoldable pub title : Literals → List ℕ → Bucket → List ℕ
+title l ends b = codes "<title>" ++ (numbers_text l ends b ++ (flat_map xml_byte (span l b) ++ codes "</title>\n"))
 
 -- a bar that stands on the line, x to the right, so wide and so high
 unfoldable pub bar : ℕ → ℕ → ℕ → List ℕ
@@ -56,18 +58,13 @@ bar_numbers x width high cost shortest =
     if nat_lt width 48 then [] else number_at (x + 3) (255 - high) cost ++ number_at (x + 3) 275 shortest
 
 -- a bucket: its title, its bar, and the numbers by it
-unfoldable pub drawn : Literals → List ℕ → ℕ → ℕ → ℕ → ℕ → List ℕ
-drawn l ends highest b p q =
+unfoldable pub drawn : Literals → List ℕ → ℕ → Bucket → List ℕ
+drawn l ends highest b =
     let n = length l.texts in
-    let cost = run_cost (lengths l) p q in
-    let width = across n q - across n p in
-    codes "<g>" ++ (title l ends b p q ++ (bar (across n p) width (height cost highest)
-    ++ (bar_numbers (across n p) width (height cost highest) cost (slice_index (lengths l) p) ++ codes "</g>\n")))
-
--- the buckets from b on, which begin at place p and have these ends
-abbrev pub drawn_from : Literals → List ℕ → ℕ → ℕ → ℕ → List ℕ → List ℕ
-drawn_from l ends highest b p [] = []
-drawn_from l ends highest b p (q ∷ more) = drawn l ends highest b p q ++ drawn_from l ends highest (b + 1) q more
+    let cost = run_cost (lengths l) b.start b.end in
+    let width = across n b.end - across n b.start in
+    codes "<g>" ++ (title l ends b ++ (bar (across n b.start) width (height cost highest)
+    ++ (bar_numbers (across n b.start) width (height cost highest) cost (slice_index (lengths l) b.start) ++ codes "</g>\n")))
 
 -- what stands before the cost of even parts
 abbrev pub even_phrase : Profile → List ℕ
@@ -91,16 +88,12 @@ unfoldable pub foot : List ℕ
 foot = codes "<path d=\"M40 260H680\"/>\n<text x=\"40\" y=\"300\">literals by length; below a bucket the bytes of its shortest, above it its cost</text>\n"
 
 -- the line of a bucket in the legend, which also has the numbers of bars that are too narrow for them
-unfoldable pub legend_line : Literals → List ℕ → ℕ → ℕ → ℕ → List ℕ
-legend_line l ends b p q = said (codes "<text x=\"40\" y=\"") (324 + b * 18) ++ (codes "\">" ++ (numbers_text l ends b p q ++ codes "</text>\n"))
-
--- the lines of the buckets from b on, which begin at place p and have these ends
-abbrev pub legend_from : Literals → List ℕ → ℕ → ℕ → List ℕ → List ℕ
-legend_from l ends b p [] = []
-legend_from l ends b p (q ∷ more) = legend_line l ends b p q ++ legend_from l ends (b + 1) q more
+unfoldable pub legend_line : Literals → List ℕ → Bucket → List ℕ
+legend_line l ends b = said (codes "<text x=\"40\" y=\"") (324 + b.number * 18) ++ (codes "\">" ++ (numbers_text l ends b ++ codes "</text>\n"))
 
 -- the plan, of this profile, of a list that is cut at these ends
 unfoldable pub plan_svg : Profile → Literals → List ℕ → List ℕ
 plan_svg profile l ends =
-    head (length ends) ++ (caption profile l ends ++ (drawn_from l ends (highest_cost (lengths l) 1 0 ends) 0 0 ends
-    ++ (foot ++ (legend_from l ends 0 0 ends ++ codes "</svg>\n"))))
+    let all = buckets_of ends in
+    head (length all) ++ (caption profile l ends ++ (flat_map (drawn l ends (highest_cost (lengths l) 1 all)) all
+    ++ (foot ++ (flat_map (legend_line l ends) all ++ codes "</svg>\n"))))

@@ -1,3 +1,4 @@
+pub mod Buckets
 pub mod Columns
 pub mod Drawings
 pub mod Endings

@@ -5,10 +5,12 @@ use Rattle.lit_base.specs.Literals.{Literals, lengths}
 use Rattle.lit_base.specs.Profiles.{buckets}
 use Rattle.lit_base.specs.declared.profile.Profile.{Profile}
 use Rattle.lit_base.specs.declared.profile.Profile.TheVariants.{Eight, Sixteen}
+use Rattle.plan_view.specs.Buckets.{buckets_of}
 use Rattle.plan_view.specs.Columns.{columns}
 use Rattle.plan_view.specs.Repeats.{nulls, repeats}
-use Rattle.plan_view.specs.Rows.{percent, rows_from, total_of}
+use Rattle.plan_view.specs.Rows.{percent, row, total_of}
 use Rattle.plan_view.specs.Sums.{sum_below}
+use Rattle.plan_view.specs.declared.repeats.Repeat.{Repeat}
 
 -- the names of the columns
 abbrev pub heading : List ℕ
@@ -50,8 +52,8 @@ sums profile l ends =
     ++ sum_line (even_label profile) (even_parts profile l) (percent (even_parts profile l) total))
 
 -- a line that says again what an earlier one says
-abbrev pub repeat_line : ℕ × ℕ → List ℕ
-repeat_line r = codes "  line " ++ (decimal r.0 ++ (codes " is line " ++ (decimal r.1 ++ codes " again\n")))
+abbrev pub repeat_line : Repeat → List ℕ
+repeat_line r = codes "  line " ++ (decimal r.line ++ (codes " is line " ++ (decimal r.first_line ++ codes " again\n")))
 
 -- a number after its label
 unfoldable pub count_line : List ℕ → ℕ → List ℕ
@@ -66,4 +68,4 @@ drops places =
 
 -- the plan, of this profile, of a list that is cut at these ends, whose patterns stand at these places
 unfoldable pub plan_text : Profile → Literals → List ℕ → List (Option ℕ) → List ℕ
-plan_text profile l ends places = heading ++ (rows_from l ends 0 0 ends ++ (sums profile l ends ++ drops places))
+plan_text profile l ends places = heading ++ (flat_map (row l ends) (buckets_of ends) ++ (sums profile l ends ++ drops places))

@@ -1,9 +1,11 @@
 //! A plan as a drawing.
-ghost use Rattle.std.specs.Prelude.{◌≡◌, ◌+◌, ◌^◌, ◌<◌, ◌≤◌, ◌++◌, OnOk, IfOk, flat_map, length};
-ghost use Rattle.lit_base.specs.Cuts.{CutsFrom, IsCut};
+ghost use Rattle.std.specs.Prelude.{◌≡◌, ◌^◌, ◌<◌, ◌≤◌, ◌++◌, OnOk, IfOk, flat_map, length};
+ghost use Rattle.lit_base.specs.Cuts.{IsCut};
 ghost use Rattle.lit_base.specs.Literals.{lengths};
-ghost use Rattle.plan_view.specs.Drawings.{across, bar, bar_numbers, caption, drawn, drawn_from, even_phrase, head, height, highest_cost, legend_from, legend_line, number_at, numbers_text, plan_svg, said, title, xml_byte};
+ghost use Rattle.plan_view.specs.Buckets.{IsBucket};
+ghost use Rattle.plan_view.specs.Drawings.{across, bar, bar_numbers, caption, drawn, even_phrase, head, height, highest_cost, legend_line, number_at, numbers_text, plan_svg, said, title, xml_byte};
 
+use crate::bucket::{Bucket, buckets_of};
 use crate::rows::{percent, push_span};
 use crate::sums::{even_parts, push_number, single};
 use crate::view::View;
@@ -35,14 +37,14 @@ pub fn plan_svg(
     ensures { IfOk result (λ text. text.items ≡ plan_svg profile list.now ends.now.items) }
 {
     let masks = Masks::of(list, ends);
-    let view = View::new(profile, list, ends, &masks);
-    let highest = highest_cost(list, 1, 0, ends.as_slice());
+    let buckets = buckets_of(ends);
+    let view = View::new(profile, list, ends, buckets.as_slice(), &masks);
     let mut text = Vec::new(alloc);
-    push_head(ends.as_slice().len(), &mut text)?;
+    push_head(buckets.len(), &mut text)?;
     push_caption(view, &mut text)?;
-    push_buckets(view, highest, 0, 0, ends.as_slice(), &mut text)?;
+    push_buckets(view, &mut text)?;
     text.extend_from_slice(FOOT)?;
-    push_legend(view, 0, 0, ends.as_slice(), &mut text)?;
+    push_legend(view, &mut text)?;
     text.extend_from_slice(b"</svg>\n")?;
     Ok(text)
 }
@@ -82,78 +84,52 @@ fn even_phrase(profile: Profile) -> &'static [u8]
     }
 }
 
-/// The highest of this cost and the costs of the runs from place `start` on.
-fn highest_cost(list: &LitList, least: u64, start: usize, ends: &[u16]) -> u64
-    requires cuts { CutsFrom (length list.now.texts) start ends.now }
-    requires least { 0 < least }
-    ensures value { result ≡ highest_cost (lengths list.now) least start ends.now }
+/// The highest cost of a bucket, at least 1.
+fn highest_cost(view: View<'_>) -> u64
+    ensures value { result ≡ highest_cost (lengths view.entry.list.now) 1 view.entry.buckets.now }
     ensures positive { 0 < result }
 {
-    match ends {
-        [] => least,
-        [end, rest @ ..] => {
-            let end = usize::from(*end);
-            highest_cost(list, least.max(run_cost(list, start, end)), end, rest)
-        }
+    let mut highest = 1;
+    for bucket in view.buckets {
+        highest = highest.max(run_cost(view.list, bucket.start, bucket.end));
     }
+    highest
 }
 
-/// Appends the buckets from this one on, which begin at place `start` and have these ends.
-fn push_buckets(
-    view: View<'_>,
-    highest: u64,
-    bucket: usize,
-    start: usize,
-    ends: &[u16],
-    text: &mut Vec<u8>,
-) -> Result<(), AllocError>
-    requires cuts { CutsFrom (length view.list.now.texts) start ends.now }
-    requires few { bucket + length ends.now ≤ 16 }
-    requires highest { 0 < highest }
-    ensures { OnOk result (text.new.items ≡ text.old.items ++ drawn_from view.entry.list.now view.entry.ends.now.items highest bucket start ends.now) }
+/// Appends all buckets.
+fn push_buckets(view: View<'_>, text: &mut Vec<u8>) -> Result<(), AllocError>
+    ensures { OnOk result (text.new.items ≡ text.old.items ++ flat_map (drawn view.entry.list.now view.entry.ends.now.items
+        (highest_cost (lengths view.entry.list.now) 1 view.entry.buckets.now)) view.entry.buckets.now) }
 {
-    match ends {
-        [] => Ok(()),
-        [end, rest @ ..] => {
-            let end = usize::from(*end);
-            push_bucket(view, highest, bucket, start, end, text)?;
-            push_buckets(view, highest, bucket + 1, end, rest, text)
-        }
+    let highest = highest_cost(view);
+    for bucket in view.buckets {
+        push_bucket(view, highest, *bucket, text)?;
     }
+    Ok(())
 }
 
-/// Appends a bucket: the literals from place `start` up to but not including `end`.
+/// Appends a bucket, in a drawing whose highest bucket has this cost.
 #[tactic(auto, unfolding(crate::specs::Drawings::drawn))]
 fn push_bucket(
     view: View<'_>,
     highest: u64,
-    bucket: usize,
-    start: usize,
-    end: usize,
+    bucket: Bucket,
     text: &mut Vec<u8>,
 ) -> Result<(), AllocError>
-    requires bucket { bucket < 16 }
-    requires some { start < end }
-    requires within { end ≤ length view.list.now.texts }
+    requires bucket { IsBucket (length view.list.now.texts) bucket }
     requires highest { 0 < highest }
-    ensures { OnOk result (text.new.items ≡ text.old.items ++ drawn view.entry.list.now view.entry.ends.now.items highest bucket start end) }
+    ensures { OnOk result (text.new.items ≡ text.old.items ++ drawn view.entry.list.now view.entry.ends.now.items highest bucket) }
 {
     let count = view.list.len();
-    let x = across(count, start);
-    let width = across(count, end).saturating_sub(x);
-    let cost = run_cost(view.list, start, end);
+    let x = across(count, bucket.start);
+    let width = across(count, bucket.end).saturating_sub(x);
+    let cost = run_cost(view.list, bucket.start, bucket.end);
+    let shortest = view.list.get(bucket.start).len() as u64;
     let high = height(cost, highest);
     text.extend_from_slice(b"<g>")?;
-    push_title(view, bucket, start, end, text)?;
+    push_title(view, bucket, text)?;
     push_bar(x, width, high, text)?;
-    push_bar_numbers(
-        x,
-        width,
-        high,
-        cost,
-        view.list.get(start).len() as u64,
-        text,
-    )?;
+    push_bar_numbers(x, width, high, cost, shortest, text)?;
     text.extend_from_slice(b"</g>\n")?;
     Ok(())
 }
@@ -180,87 +156,57 @@ fn height(cost: u64, highest: u64) -> u64
 
 /// Appends the title of a bucket, which shows where a pointer rests on it.
 #[tactic(auto, unfolding(crate::specs::Drawings::title))]
-fn push_title(
-    view: View<'_>,
-    bucket: usize,
-    start: usize,
-    end: usize,
-    text: &mut Vec<u8>,
-) -> Result<(), AllocError>
-    requires bucket { bucket < 16 }
-    requires some { start < end }
-    requires within { end ≤ length view.list.now.texts }
-    ensures { OnOk result (text.new.items ≡ text.old.items ++ title view.entry.list.now view.entry.ends.now.items bucket start end) }
+fn push_title(view: View<'_>, bucket: Bucket, text: &mut Vec<u8>) -> Result<(), AllocError>
+    requires { IsBucket (length view.list.now.texts) bucket }
+    ensures { OnOk result (text.new.items ≡ text.old.items ++ title view.entry.list.now view.entry.ends.now.items bucket) }
 {
     let mut span = Vec::new(*text.allocator());
-    push_span(view.list, start, end, &mut span)?;
+    push_span(view.list, bucket, &mut span)?;
     text.extend_from_slice(b"<title>")?;
-    push_numbers(view, bucket, start, end, text)?;
+    push_numbers(view, bucket, text)?;
     push_xml(span.as_slice(), text)?;
     text.extend_from_slice(b"</title>\n")?;
     Ok(())
 }
 
 /// Appends the numbers of a bucket.
-fn push_numbers(
-    view: View<'_>,
-    bucket: usize,
-    start: usize,
-    end: usize,
-    text: &mut Vec<u8>,
-) -> Result<(), AllocError>
-    requires bucket { bucket < 16 }
-    requires some { start < end }
-    requires within { end ≤ length view.list.now.texts }
-    ensures { OnOk result (text.new.items ≡ text.old.items ++ numbers_text view.entry.list.now view.entry.ends.now.items bucket start end) }
+fn push_numbers(view: View<'_>, bucket: Bucket, text: &mut Vec<u8>) -> Result<(), AllocError>
+    requires { IsBucket (length view.list.now.texts) bucket }
+    ensures { OnOk result (text.new.items ≡ text.old.items ++ numbers_text view.entry.list.now view.entry.ends.now.items bucket) }
 {
-    let cost = run_cost(view.list, start, end);
-    push_said(b"bucket ", bucket as u64 + 1, text)?;
-    push_said(b": literals ", (end - start) as u64, text)?;
-    push_said(b", shortest ", view.list.get(start).len() as u64, text)?;
+    let count = bucket.end - bucket.start;
+    let shortest = view.list.get(bucket.start).len();
+    let cost = run_cost(view.list, bucket.start, bucket.end);
+    push_said(b"bucket ", bucket.number as u64 + 1, text)?;
+    push_said(b": literals ", count as u64, text)?;
+    push_said(b", shortest ", shortest as u64, text)?;
     push_said(b", cost ", cost, text)?;
     push_said(b", % of all ", percent(cost, view.total), text)?;
     Ok(())
 }
 
-/// Appends the legend's lines of the buckets from this one on, which begin at place `start` and have these ends.
-fn push_legend(
-    view: View<'_>,
-    bucket: usize,
-    start: usize,
-    ends: &[u16],
-    text: &mut Vec<u8>,
-) -> Result<(), AllocError>
-    requires cuts { CutsFrom (length view.list.now.texts) start ends.now }
-    requires few { bucket + length ends.now ≤ 16 }
-    ensures { OnOk result (text.new.items ≡ text.old.items ++ legend_from view.entry.list.now view.entry.ends.now.items bucket start ends.now) }
+/// Appends the legend: a line for each bucket.
+fn push_legend(view: View<'_>, text: &mut Vec<u8>) -> Result<(), AllocError>
+    ensures { OnOk result (text.new.items ≡ text.old.items ++ flat_map (legend_line view.entry.list.now view.entry.ends.now.items) view.entry.buckets.now) }
 {
-    match ends {
-        [] => Ok(()),
-        [end, rest @ ..] => {
-            let end = usize::from(*end);
-            push_legend_line(view, bucket, start, end, text)?;
-            push_legend(view, bucket + 1, end, rest, text)
-        }
+    for bucket in view.buckets {
+        push_legend_line(view, *bucket, text)?;
     }
+    Ok(())
 }
 
 /// Appends the line of a bucket in the legend.
-fn push_legend_line(
-    view: View<'_>,
-    bucket: usize,
-    start: usize,
-    end: usize,
-    text: &mut Vec<u8>,
-) -> Result<(), AllocError>
-    requires bucket { bucket < 16 }
-    requires some { start < end }
-    requires within { end ≤ length view.list.now.texts }
-    ensures { OnOk result (text.new.items ≡ text.old.items ++ legend_line view.entry.list.now view.entry.ends.now.items bucket start end) }
+fn push_legend_line(view: View<'_>, bucket: Bucket, text: &mut Vec<u8>) -> Result<(), AllocError>
+    requires { IsBucket (length view.list.now.texts) bucket }
+    ensures { OnOk result (text.new.items ≡ text.old.items ++ legend_line view.entry.list.now view.entry.ends.now.items bucket) }
 {
-    push_said(b"<text x=\"40\" y=\"", 324 + bucket as u64 * 18, text)?;
+    push_said(
+        b"<text x=\"40\" y=\"",
+        324 + bucket.number as u64 * 18,
+        text,
+    )?;
     text.extend_from_slice(b"\">")?;
-    push_numbers(view, bucket, start, end, text)?;
+    push_numbers(view, bucket, text)?;
     text.extend_from_slice(b"</text>\n")?;
     Ok(())
 }

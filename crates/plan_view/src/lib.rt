@@ -2,6 +2,7 @@
 //! text also says which patterns were dropped.
 #![tactic(auto)]
 
+mod bucket;
 mod columns;
 mod drawing;
 mod endings;

@@ -4,11 +4,17 @@ ghost use Rattle.plan_view.specs.Repeats.{earlier, first_with, nulls, repeat_at,
 
 use std::alloc::{AllocError, Global};
 
-/// The line of a pattern, and the line of the first one with the same literal; lines count from 1.
-pub type Repeat = (usize, usize);
+/// A pattern whose literal an earlier pattern has. Lines count from 1.
+#[derive(Clone, Copy, Debug)]
+pub struct Repeat {
+    /// The line of the pattern.
+    pub line: usize,
+    /// The line of the first pattern with this literal.
+    pub first_line: usize,
+}
 
-/// The patterns whose literal an earlier one has, each with the first pattern of that literal; each pattern is known by
-/// the place of its literal. It compares each pattern with all before it.
+/// The patterns whose literal an earlier one has, in order; each pattern is known by the place of its literal. It
+/// compares each pattern with all before it.
 #[tactic(auto, using(crate::proofs::Ranges::repeats_more, crate::proofs::Ranges::no_repeats))]
 pub fn repeats(alloc: Global, places: &[Option<u16>]) -> Result<Vec<Repeat>, AllocError>
     ensures { IfOk result (λ found. found.items ≡ repeats places.now (length places.now)) }
@@ -30,7 +36,10 @@ fn push_repeat(
     ensures { OnOk result (found.new.items ≡ found.old.items ++ repeat_at later (earlier places.now later)) }
 {
     if let Some(first) = earlier(places, later) {
-        found.push((later + 1, first + 1))?;
+        found.push(Repeat {
+            line: later + 1,
+            first_line: first + 1,
+        })?;
     }
     Ok(())
 }

@@ -149,20 +149,20 @@ fn push_count(label: &[u8], count: usize, text: &mut Vec<u8>) -> Result<(), Allo
 fn push_repeats(found: &[Repeat], text: &mut Vec<u8>) -> Result<(), AllocError>
     ensures { OnOk result (text.new.items ≡ text.old.items ++ flat_map repeat_line found.now) }
 {
-    for (later, first) in found {
-        push_repeat(*later, *first, text)?;
+    for repeat in found {
+        push_repeat(*repeat, text)?;
     }
     Ok(())
 }
 
 /// Appends the line of a dropped pattern.
-fn push_repeat(later: usize, first: usize, text: &mut Vec<u8>) -> Result<(), AllocError>
-    ensures { OnOk result (text.new.items ≡ text.old.items ++ repeat_line (later, first)) }
+fn push_repeat(repeat: Repeat, text: &mut Vec<u8>) -> Result<(), AllocError>
+    ensures { OnOk result (text.new.items ≡ text.old.items ++ repeat_line repeat) }
 {
     text.extend_from_slice(b"  line ")?;
-    push_number(later as u64, text)?;
+    push_number(repeat.line as u64, text)?;
     text.extend_from_slice(b" is line ")?;
-    push_number(first as u64, text)?;
+    push_number(repeat.first_line as u64, text)?;
     text.extend_from_slice(b" again\n")?;
     Ok(())
 }

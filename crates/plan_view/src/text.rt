@@ -3,6 +3,7 @@ ghost use Rattle.std.specs.Prelude.{◌≡◌, IfOk, length};
 ghost use Rattle.lit_base.specs.Cuts.{IsCut};
 ghost use Rattle.plan_view.specs.Texts.{plan_text};
 
+use crate::bucket::buckets_of;
 use crate::rows::push_rows;
 use crate::sums::{push_drops, push_sums};
 use crate::view::View;
@@ -29,9 +30,10 @@ pub fn plan_text(
     ensures { IfOk result (λ text. text.items ≡ plan_text profile list.now ends.now.items places.now) }
 {
     let masks = Masks::of(list, ends);
-    let view = View::new(profile, list, ends, &masks);
+    let buckets = buckets_of(ends);
+    let view = View::new(profile, list, ends, buckets.as_slice(), &masks);
     let mut text = Vec::from_slice(alloc, HEADING)?;
-    push_rows(view, 0, 0, ends.as_slice(), &mut text)?;
+    push_rows(view, &mut text)?;
     push_sums(view, &mut text)?;
     push_drops(alloc, places, &mut text)?;
     Ok(text)

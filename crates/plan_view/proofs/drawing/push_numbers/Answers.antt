@@ -11,9 +11,9 @@ pub returns : goal.returns
 unfolding numbers_text
 returns c =
     let l = c.args.view.list.now in
-    let cost = run_cost (lengths l) c.args.start c.args.end in
-    let three : c.push_said-3.new.text.items ≡ c.push_said-2.new.text.items ++ said (codes ", shortest ") (slice_index (lengths l) c.args.start) =
-    c.in_ok-push_said-3.ensures ∙ ap (λ n. c.push_said-2.new.text.items ++ said (codes ", shortest ") n) c.get.ensures.len in
+    let cost = run_cost (lengths l) c.args.bucket.start c.args.bucket.end in
+    let three : c.push_said-3.new.text.items ≡ c.push_said-2.new.text.items ++ said (codes ", shortest ") (slice_index (lengths l) c.args.bucket.start) =
+    c.in_ok-push_said-3.ensures ∙ ap (λ n. c.push_said-2.new.text.items ++ said (codes ", shortest ") n) c.get-shortest.ensures.len in
     let four : c.push_said-4.new.text.items ≡ c.push_said-3.new.text.items ++ said (codes ", cost ") cost =
     c.in_ok-push_said-4.ensures ∙ ap (λ n. c.push_said-3.new.text.items ++ said (codes ", cost ") n) c.run_cost-cost.ensures.value in
     let five : c.push_said-5.new.text.items ≡ c.push_said-4.new.text.items ++ said (codes ", % of all ") (percent cost (total_of l c.args.view.ends.now.items)) =

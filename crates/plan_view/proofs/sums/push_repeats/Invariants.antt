@@ -4,5 +4,5 @@ use Rattle.plan_view.specs.Texts.{repeat_line}
 use Rattle.plan_view.proofs.sums.push_repeats.Given as goal
 
 -- the lines so far were appended
-abbrev pub invariant-loop-later : goal.invariant-loop-later
-invariant-loop-later l = l.text.items ≡ l.fn.text.items ++ flat_map repeat_line (take l.later-index l.found)
+abbrev pub invariant-loop-repeat : goal.invariant-loop-repeat
+invariant-loop-repeat l = l.text.items ≡ l.fn.text.items ++ flat_map repeat_line (take l.repeat-index l.found)
