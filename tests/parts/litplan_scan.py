@@ -95,6 +95,27 @@ def random_scans():
         yield f"{workers} workers for {literals!r:.100} in {text!r:.200}", got, (0, wanted, b"")
 
 
+def spans():
+    """Hits at and across the borders of the spans of 16 MiB that each worker scans before hits are written; and a count of
+    more hits than the memory would hold."""
+    span = 16 << 20
+    text = bytearray(b"." * (2 * span + 1000))
+    starts = [border + shift for border in (span, 2 * span) for shift in (-20, -9, -3, 4, 12)]
+    for start in starts:
+        text[start : start + 6] = b"needle"
+    ends = b"".join(b"0 %d\n" % (start + 6) for start in starts)
+    names = b"".join(b'0 %d "needle"\n' % start for start in starts)
+    for workers in 1, 2, 3:
+        for more, wanted in ((), ends), (("--names",), names), (("--count",), b"%d\n" % len(starts)):
+            got = litplan_in_folder({"p": b"needle\n"}, words_of(workers, *more, "p", "-"), bytes(text))
+            yield f"hits at the borders of spans by {workers} workers {more}", got, (0, wanted, b"")
+    # All these hits at once would take a gibibyte, those of a span a quarter, and twice that as they grow.
+    most = 900 << 20
+    how = {"preexec_fn": lambda: resource.setrlimit(resource.RLIMIT_AS, (most, most))}
+    got = litplan_in_folder({"p": b"a\n"}, words_of(1, "--count", "p", "-"), b"a" * (4 * span), **how)
+    yield "a count of 64 Mi hits in 900 MiB", got, (0, b"%d\n" % (4 * span), b"")
+
+
 def workers_without_memory():
     """Workers that cannot be started for want of memory: the output stays the same."""
     files = {"p": PRONOUNS, "t": b"ushers" * 1000}
@@ -106,4 +127,4 @@ def workers_without_memory():
         yield f"16 workers in {mebibytes} MiB", got, (0, want, b"")
 
 
-TESTS = (rows, random_scans, workers_without_memory)
+TESTS = (rows, random_scans, spans, workers_without_memory)

@@ -7,4 +7,4 @@ mod parts;
 
 pub use fault::Fault;
 pub use gate::{Gate, NoGate};
-pub use parts::{MAX_WORKERS, scan_parts};
+pub use parts::{MAX_WORKERS, scan_parts, scan_parts_after};

@@ -2,7 +2,7 @@
 ghost use Rattle.std.specs.Prelude.{◌+◌, ◌*◌, ◌<◌, ◌≤◌, IfOk, IsOk, IsOkUnless, length};
 ghost use Rattle.lit_base.specs.Occurrences.{IsHits};
 ghost use Rattle.lit_base.specs.NextEnds.{NoEndAfter};
-ghost use Rattle.text_ends.specs.HitsAfter.{Continues};
+ghost use Rattle.text_ends.specs.HitsAfter.{AreHitsAfter};
 ghost use Rattle.par_scan.specs.declared.fault.Fault.TheVariants.{OutOfMemory};
 ghost use denote.Param.Send.{IsSync};
 
@@ -38,25 +38,50 @@ pub fn scan_parts<R: Threads + Sync, G: Gate>(
 {
     // Read here, the bound on the lengths of literals is known below.
     let _carry = compiled.carry();
+    scan_parts_after(rt, alloc, gate, compiled, text, 0, workers)
+}
+
+/// The hits of a text that end after `from`, in order, found by workers as `scan_parts` finds all. Together with the
+/// hits of the first `from` bytes they are the hits of the text.
+///
+/// The only refusal is `OutOfMemory`.
+pub fn scan_parts_after<R: Threads + Sync, G: Gate>(
+    rt: &R,
+    alloc: Global,
+    gate: &G,
+    compiled: &Compiled,
+    text: &[u8],
+    from: usize,
+    workers: usize,
+) -> Result<Vec<Hit>, Fault>
+    requires inside { from ≤ length text.now }
+    requires some { 1 ≤ workers }
+    requires few { workers ≤ 16 }
+    ensures ok { IfOk result (λ hits. AreHitsAfter compiled.now.literals text.now from from hits.items) }
+    ensures refused { IsOkUnless result OutOfMemory }
+
+    // Where nothing ends after the position, it needs no memory.
+    ensures quiet { NoEndAfter compiled.now.literals text.now from → IsOk result }
+{
     if workers == 1 {
-        return scan_part(alloc, gate, compiled, text, 0, 1);
+        return scan_part(alloc, gate, compiled, text, from, 1);
     }
-    let from = text.len() - last_part(text.len(), workers);
-    let (prefix, _) = text.split_at(from);
+    let mid = text.len() - last_part(text.len() - from, workers);
+    let (prefix, _) = text.split_at(mid);
     let (last, before) = join(
         rt,
         || -> Result<Vec<Hit>, Fault>
-            requires { from ≤ length text.now }
-            ensures continues { IfOk result (λ hits. Continues compiled.entry.now.literals text.entry.now from hits.items) }
+            requires { mid ≤ length text.now }
+            ensures ok { IfOk result (λ hits. AreHitsAfter compiled.entry.now.literals text.entry.now mid mid hits.items) }
             ensures refused { IsOkUnless result OutOfMemory }
-            ensures quiet { NoEndAfter compiled.entry.now.literals text.entry.now from → IsOk result }
-        { scan_part(alloc, gate, compiled, text, from, workers) },
+            ensures quiet { NoEndAfter compiled.entry.now.literals text.entry.now mid → IsOk result }
+        { scan_part(alloc, gate, compiled, text, mid, workers) },
         || -> Result<Vec<Hit>, Fault>
-            requires { IsSync R.row × (1 < workers) × (workers ≤ 16) }
-            ensures ok { IfOk result (λ hits. IsHits compiled.entry.now.literals prefix.entry.now hits.items) }
+            requires { IsSync R.row × (from ≤ length prefix.now) × (1 < workers) × (workers ≤ 16) }
+            ensures ok { IfOk result (λ hits. AreHitsAfter compiled.entry.now.literals prefix.entry.now from from hits.items) }
             ensures refused { IsOkUnless result OutOfMemory }
-            ensures quiet { NoEndAfter compiled.entry.now.literals prefix.entry.now 0 → IsOk result }
-        { scan_parts(rt, alloc, gate, compiled, prefix, workers - 1) },
+            ensures quiet { NoEndAfter compiled.entry.now.literals prefix.entry.now from → IsOk result }
+        { scan_parts_after(rt, alloc, gate, compiled, prefix, from, workers - 1) },
     );
     let mut hits = before?;
     let mut more = last?;
@@ -67,13 +92,14 @@ pub fn scan_parts<R: Threads + Sync, G: Gate>(
 /// How many of `len` bytes the last worker scans. The parts of all workers differ by one byte at most.
 fn last_part(len: usize, workers: usize) -> usize
     requires { 1 ≤ workers }
+    ensures within { result ≤ len }
     ensures most { workers * result ≤ len }
     ensures all { len < workers * (result + 1) }
 {
     len / workers
 }
 
-/// A worker's scan: the hits that end in the text after a position, by a finder if the rest of the text is long.
+/// A worker's scan: the hits of a text that end after a position, by a finder if the rest of the text is long.
 fn scan_part<G: Gate>(
     alloc: Global,
     gate: &G,
@@ -83,7 +109,7 @@ fn scan_part<G: Gate>(
     worker: usize,
 ) -> Result<Vec<Hit>, Fault>
     requires { from ≤ length text.now }
-    ensures continues { IfOk result (λ hits. Continues compiled.now.literals text.now from hits.items) }
+    ensures ok { IfOk result (λ hits. AreHitsAfter compiled.now.literals text.now from from hits.items) }
     ensures refused { IsOkUnless result OutOfMemory }
     ensures quiet { NoEndAfter compiled.now.literals text.now from → IsOk result }
 {

@@ -2,7 +2,7 @@
 use Rattle.std.proofs.Common.{◌≡◌, ◌≢◌, ◌⊎◌, ℕ, true, false, List, IfErr, IfSome, Option, None, Some, Ok, Err, Result, inl, inr, ap, refl, subst, sym}
 use Rattle.std.specs.List.{AllZip}
 use Rattle.byte_io.specs.Devices.{Coming, IfKnown}
-use Rattle.byte_io.specs.Sources.{AreShort, Content, OpensAs, Sources, after, ask_of, taken_by}
+use Rattle.byte_io.specs.Sources.{AreShort, Ask, Content, OpensAs, Sources, after, ask_of, taken_by}
 use Rattle.byte_io.proofs.KnownLemmas.{IfKnown-weaker}
 use Rattle.lit_base.specs.Faults.{RefusedBy}
 use Rattle.lit_base.specs.Literals.{Literals}
@@ -60,15 +60,15 @@ opens-some : {I : Type 0} (f : I → Option Coming) (input : I) (source : Option
 opens-some f input None opens = λ none. (let bad : false ≡ true = opens in (cc))
 opens-some f input (Some c) opens = λ none. (cc)
 
-can-open : {I : Type 0} (f : I → Option Coming) (input : I) (known : Option Sources) (name : List ℕ) → IfSome known (λ s. OpensAs {I = I} f (taken_by (ask_of name) s) (Ok input)) → CanBeOpened known name
-can-open f input None name opens = tt
-can-open f input (Some s) name opens = opens-some f input (taken_by (ask_of name) s) opens
+can-open : {I : Type 0} (f : I → Option Coming) (input : I) (known : Option Sources) (ask : Ask) → IfSome known (λ s. OpensAs {I = I} f (taken_by ask s) (Ok input)) → CanBeOpened known ask
+can-open f input None ask opens = tt
+can-open f input (Some s) ask opens = opens-some f input (taken_by ask s) opens
 
 -- so whatever came of it came after that
-pub open-before-memory : {T : Type 0} (known : Option Sources) (name : List ℕ) (r : Result T Stop) → CanBeOpened known name → OpensBeforeMemory known name r
-open-before-memory known name (Ok x) there = there
-open-before-memory known name (Err stop) there = λ memory. there
+pub open-before-memory : {T : Type 0} (known : Option Sources) (ask : Ask) (r : Result T Stop) → CanBeOpened known ask → OpensBeforeMemory known ask r
+open-before-memory known ask (Ok x) there = there
+open-before-memory known ask (Err stop) there = λ memory. there
 
-pub opened-before-memory : {I T : Type 0} (f : I → Option Coming) (input : I) (known : Option Sources) (name : List ℕ) (r : Result T Stop)
-    → IfSome known (λ s. OpensAs {I = I} f (taken_by (ask_of name) s) (Ok input)) → OpensBeforeMemory known name r
-opened-before-memory f input known name r opens = open-before-memory known name r (can-open f input known name opens)
+pub opened-before-memory : {I T : Type 0} (f : I → Option Coming) (input : I) (known : Option Sources) (ask : Ask) (r : Result T Stop)
+    → IfSome known (λ s. OpensAs {I = I} f (taken_by ask s) (Ok input)) → OpensBeforeMemory known ask r
+opened-before-memory f input known ask r opens = open-before-memory known ask r (can-open f input known ask opens)

@@ -23,11 +23,12 @@ use Rattle.plan_pack.specs.Asking.{AsksAfterReads, LeavesMigrate, UnlessStarved,
 use Rattle.plan_pack.specs.Migrated.{AreMigrated, IsMigrated, IsNoPlanFile, IsSourceOf, Unfinished, Unfit}
 use Rattle.plan_pack.specs.Migrating.{Kept, LeavesMigrated, MakesMigrated, Migrates, Migration, Moved}
 use Rattle.plan_pack.specs.Packing.{LeavesFile, MakesFile, answer_of}
+use Rattle.plan_pack.specs.Stops.{is_starved, ran_out}
 use Rattle.plan_pack.specs.Taken.{TakesPlans}
 use Rattle.plan_pack.specs.declared.stop.Refusal.TheVariants.{NoPlanFile, Unusable}
 use Rattle.plan_pack.specs.declared.stop.Stop.{Stop}
-use Rattle.plan_pack.specs.declared.stop.Stop.TheVariants.{OutOfMemory, Refused, WriteFault}
-use Rattle.plan_pack.proofs.AskLemmas.{none-asked, unstarved}
+use Rattle.plan_pack.specs.declared.stop.Stop.TheVariants.{OutOfMemory, Refused}
+use Rattle.plan_pack.proofs.AskLemmas.{none-asked}
 
 -- no profile has more buckets
 few-buckets : (profile : Profile) → buckets profile ≤ 16
@@ -101,33 +102,29 @@ plans-unread name known r c clean fault e short =
 
 -- what a stop leaves of it
 moved-left : {O : Type 0} (written : O → Option (List ℕ)) (old new : List Plan) (name : List ℕ) (s left : Sources) (stop : Stop) (begun : Option O) → AreMigrated old new
-    → AsksAfterReads {T = O} (Err stop) (Created name ∷ []) [] s left → LeavesFile written new (can_create name s.creatable) stop begun
+    → AsksAfterReads (is_starved stop) (Created name ∷ []) [] s left → LeavesFile written new (can_create name s.creatable) stop begun
     → LeavesMigrated written old name s left stop begun
 moved-left written old new name s left stop (Some made) moved asks leaves = (leaves.0, new, moved, leaves.1)
 moved-left written old new name s left OutOfMemory None moved asks leaves = inl (none-asked s left asks, refl)
 moved-left written old new name s left (Refused refusal) None moved asks (inl starved) = absurd (cc)
 moved-left written old new name s left (Refused refusal) None moved asks (inr cannot) = inr cannot
-moved-left written old new name s left WriteFault None moved asks (inl starved) = absurd (cc)
-moved-left written old new name s left WriteFault None moved asks (inr cannot) = inr cannot
 
 pub moved-stopped : {O : Type 0} (written : O → Option (List ℕ)) (old new : List Plan) (name : List ℕ) (known left : Option Sources) (stopped : Stop × Option O) → AreMigrated old new
-    → IfKnown known left (λ s l. AsksAfterReads {T = O} (Err stopped.0) (Created name ∷ []) [] s l × MakesFile written new name (can_create name s.creatable) (Err stopped))
-    → IfKnown known left (λ s l. AsksAfterReads {T = Vec ℕ × O} (Err stopped.0) (Created name ∷ []) [] s l × MakesMigrated written old name s l (Err stopped))
+    → IfKnown known left (λ s l. AsksAfterReads (is_starved stopped.0) (Created name ∷ []) [] s l × MakesFile written new name (can_create name s.creatable) (Err stopped))
+    → IfKnown known left (λ s l. AsksAfterReads (is_starved stopped.0) (Created name ∷ []) [] s l × MakesMigrated written old name s l (Err stopped))
 moved-stopped {O} written old new name known left stopped moved makes =
-    IfKnown-weaker known left _ (λ s l. AsksAfterReads {T = Vec ℕ × O} (Err stopped.0) (Created name ∷ []) [] s l × MakesMigrated written old name s l (Err stopped)) makes (λ s l h. (
-      unstarved O (Vec ℕ × O) (l ≡ after (Created name) s) [] s l stopped.0 h.0,
+    IfKnown-weaker known left _ (λ s l. AsksAfterReads (is_starved stopped.0) (Created name ∷ []) [] s l × MakesMigrated written old name s l (Err stopped)) makes (λ s l h. (
+      h.0,
       (h.1.0, moved-left written old new name s l stopped.0 stopped.1 moved h.0 h.1.1),
     ))
 
 -- ---- from one to the other
 
 -- once there are plans, there is an ask for the other file
-asks-with : {T : Type 0} (r : Result T Stop) (input output : List ℕ) (s mid left : Sources) (plans : List Plan) → mid ≡ after (ask_of input) s → IsSourceOf (taken_by (ask_of input) s) plans
-    → AsksAfterReads r (Created output ∷ []) [] mid left → UnlessStarved r (LeavesMigrate input output s left) (ask_of input ∷ []) s left
-asks-with (Ok x) input output s mid left plans read source asks = WithPlans plans source (asks ∙ ap (after (Created output)) read)
-asks-with (Err (Refused refusal)) input output s mid left plans read source asks = WithPlans plans source (asks ∙ ap (after (Created output)) read)
-asks-with (Err WriteFault) input output s mid left plans read source asks = WithPlans plans source (asks ∙ ap (after (Created output)) read)
-asks-with (Err OutOfMemory) input output s mid left plans read source asks = record {
+asks-with : (starved : Bool) (input output : List ℕ) (s mid left : Sources) (plans : List Plan) → mid ≡ after (ask_of input) s → IsSourceOf (taken_by (ask_of input) s) plans
+    → AsksAfterReads starved (Created output ∷ []) [] mid left → UnlessStarved starved (LeavesMigrate input output s left) (ask_of input ∷ []) s left
+asks-with false input output s mid left plans read source asks = WithPlans plans source (asks ∙ ap (after (Created output)) read)
+asks-with true input output s mid left plans read source asks = record {
   made = ask_of input ∷ asks.made;
   rest = asks.rest;
   parts = ap (λ xs. ask_of input ∷ xs) asks.parts;
@@ -136,28 +133,27 @@ asks-with (Err OutOfMemory) input output s mid left plans read source asks = rec
 
 pub migrate-had : {O : Type 0} (written : O → Option (List ℕ)) (input output : List ℕ) (known mid left : Option Sources) (plans : Vec Plan) (r : Migration O)
     → IfKnown known mid (λ s m. AreShort s → (m ≡ after (ask_of input) s) × TakesPlans input (taken_by (ask_of input) s) (Ok plans))
-    → IfKnown mid left (λ m l. AsksAfterReads (answer_of r) (Created output ∷ []) [] m l × MakesMigrated written plans.items output m l r)
-    → IfKnown known left (λ s l. AreShort s → UnlessStarved (answer_of r) (LeavesMigrate input output s l) (ask_of input ∷ []) s l × Migrates written input output s l r)
+    → IfKnown mid left (λ m l. AsksAfterReads (ran_out (answer_of r)) (Created output ∷ []) [] m l × MakesMigrated written plans.items output m l r)
+    → IfKnown known left (λ s l. AreShort s → UnlessStarved (ran_out (answer_of r)) (LeavesMigrate input output s l) (ask_of input ∷ []) s l × Migrates written input output s l r)
 migrate-had written input output known mid left plans r reads makes =
-    IfKnown-then known mid left _ _ (λ s l. AreShort s → UnlessStarved (answer_of r) (LeavesMigrate input output s l) (ask_of input ∷ []) s l × Migrates written input output s l r) reads makes (λ s m l h g short.
+    IfKnown-then known mid left _ _ (λ s l. AreShort s → UnlessStarved (ran_out (answer_of r)) (LeavesMigrate input output s l) (ask_of input ∷ []) s l × Migrates written input output s l r) reads makes (λ s m l h g short.
     let taken = h short in (
-      asks-with (answer_of r) input output s m l plans.items taken.0 taken.1 g.0,
+      asks-with (ran_out (answer_of r)) input output s m l plans.items taken.0 taken.1 g.0,
       Moved plans.items taken.1 (subst (λ x. MakesMigrated written plans.items output x l r) taken.0 g.1),
     ))
 
 -- where there are none, it is not
-asks-without : (T : Type 0) (stop : Stop) (input output : List ℕ) (s left : Sources) → left ≡ after (ask_of input) s → TakesPlans input (taken_by (ask_of input) s) (Err stop)
-    → UnlessStarved {T = T} (Err stop) (LeavesMigrate input output s left) (ask_of input ∷ []) s left
-asks-without T (Refused refusal) input output s left read takes = WithoutPlans refusal takes read
-asks-without T WriteFault input output s left read takes = absurd takes
-asks-without T OutOfMemory input output s left read takes = record { made = ask_of input ∷ []; rest = []; parts = refl; after = read }
+asks-without : (stop : Stop) (input output : List ℕ) (s left : Sources) → left ≡ after (ask_of input) s → TakesPlans input (taken_by (ask_of input) s) (Err stop)
+    → UnlessStarved (is_starved stop) (LeavesMigrate input output s left) (ask_of input ∷ []) s left
+asks-without (Refused refusal) input output s left read takes = WithoutPlans refusal takes read
+asks-without OutOfMemory input output s left read takes = record { made = ask_of input ∷ []; rest = []; parts = refl; after = read }
 
 pub migrate-stopped : {O : Type 0} (written : O → Option (List ℕ)) (input output : List ℕ) (known mid : Option Sources) (stop : Stop)
     → IfKnown known mid (λ s m. AreShort s → (m ≡ after (ask_of input) s) × TakesPlans input (taken_by (ask_of input) s) (Err stop))
-    → IfKnown known mid (λ s l. AreShort s → UnlessStarved {T = Vec ℕ × O} (Err stop) (LeavesMigrate input output s l) (ask_of input ∷ []) s l × Migrates {O = O} written input output s l (Err (stop, None)))
+    → IfKnown known mid (λ s l. AreShort s → UnlessStarved (is_starved stop) (LeavesMigrate input output s l) (ask_of input ∷ []) s l × Migrates {O = O} written input output s l (Err (stop, None)))
 migrate-stopped {O} written input output known mid stop reads =
-    IfKnown-weaker known mid _ (λ s l. AreShort s → UnlessStarved {T = Vec ℕ × O} (Err stop) (LeavesMigrate input output s l) (ask_of input ∷ []) s l × Migrates {O = O} written input output s l (Err (stop, None))) reads (λ s l h short.
+    IfKnown-weaker known mid _ (λ s l. AreShort s → UnlessStarved (is_starved stop) (LeavesMigrate input output s l) (ask_of input ∷ []) s l × Migrates {O = O} written input output s l (Err (stop, None))) reads (λ s l h short.
     let taken = h short in (
-      asks-without (Vec ℕ × O) stop input output s l taken.0 taken.1,
+      asks-without stop input output s l taken.0 taken.1,
       Kept stop taken.1 taken.0 refl,
     ))

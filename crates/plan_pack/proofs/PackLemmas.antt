@@ -13,11 +13,11 @@ use Rattle.plan_pack.specs.Lists.{IsPlanOf, list_in, plan_message, plan_messages
 use Rattle.plan_pack.specs.Messages.{unusable}
 use Rattle.plan_pack.specs.Packing.{Made, MakesFile, MakesPack, NamesPack, Own, PacksFiles, answer_of}
 use Rattle.plan_pack.specs.PlanFiles.{HoldsPrefix, HoldsPlans}
-use Rattle.plan_pack.specs.Stops.{Explains, is_refusal}
+use Rattle.plan_pack.specs.Stops.{Explains, is_refusal, is_starved, ran_out}
 use Rattle.plan_pack.specs.Taken.{NamesStop, TakesPlan}
 use Rattle.plan_pack.specs.declared.notation.Reading.{Reading}
 use Rattle.plan_pack.specs.declared.stop.Stop.{Stop}
-use Rattle.plan_pack.specs.declared.stop.Stop.TheVariants.{OutOfMemory, Refused, WriteFault}
+use Rattle.plan_pack.specs.declared.stop.Stop.TheVariants.{OutOfMemory, Refused}
 use Rattle.plan_pack.proofs.AskLemmas.{asks-all, asks-more, asks-stopped, none-asked, same-asks}
 
 -- no ask changes under which names files can be made
@@ -30,31 +30,29 @@ same-creatable (Created name) s = refl
 first-explains : (stop : Stop) (reason later : Option (List ℕ)) → Explains stop reason → Explains stop (option_or reason later)
 first-explains (Refused refusal) None later e = (cc)
 first-explains (Refused refusal) (Some text) later e = e
-first-explains WriteFault reason later e = e
 first-explains OutOfMemory reason later e = tt
 
 -- the plan file of these plans and then of those of the files is asked for and made, once the files are read
 abbrev pub AsksAndMakes : {O : Type 0} → (O → Option (List ℕ)) → Reading → Profile → List Plan → List (List ℕ) → List ℕ → Sources → Sources → Made O → Type 0
 AsksAndMakes written reading profile before names output s left r =
-    AsksAfterReads (answer_of r) (asks_for_plans reading names (Created output ∷ []) s) (asks_for_plans reading names [] s) s left
+    AsksAfterReads (ran_out (answer_of r)) (asks_for_plans reading names (Created output ∷ []) s) (asks_for_plans reading names [] s) s left
     × MakesPack written reading profile before names output s left r
 
 -- ---- the file of plans behind no further files
 
 pub packs-made : {O : Type 0} (written : O → Option (List ℕ)) (reading : Reading) (profile : Profile) (before : List Plan) (output : List ℕ) (s left : Sources) (r : Made O)
-    → AsksAfterReads (answer_of r) (Created output ∷ []) [] s left → MakesFile written before output (can_create output s.creatable) r
+    → AsksAfterReads (ran_out (answer_of r)) (Created output ∷ []) [] s left → MakesFile written before output (can_create output s.creatable) r
     → MakesPack written reading profile before [] output s left r
 packs-made written reading profile before output s left (Ok made) asks makes =
     (refl, makes.0, record { plans = []; right = refl; holds = subst (λ ps. HoldsPlans ps (written made)) (sym (append-nil before)) makes.1 })
 packs-made written reading profile before output s left (Err (stop, Some made)) asks makes =
     (makes.0, (refl, makes.1.0, record { plans = []; right = refl; holds = subst (λ ps. HoldsPrefix ps (written made)) (sym (append-nil before)) makes.1.1 }))
 packs-made written reading profile before output s left (Err (OutOfMemory, None)) asks makes = (tt, inl (none-asked s left asks, tt))
-packs-made written reading profile before output s left (Err (WriteFault, None)) asks makes = absurd makes.0
 packs-made written reading profile before output s left (Err (Refused refusal, None)) asks (why, inl starved) = absurd (cc)
 packs-made written reading profile before output s left (Err (Refused refusal, None)) asks (why, inr cannot) = (why, inr cannot)
 
 pub pack-made : {O : Type 0} (written : O → Option (List ℕ)) (reading : Reading) (profile : Profile) (before : List Plan) (output : List ℕ) (known left : Option Sources) (r : Made O)
-    → IfKnown known left (λ s l. AsksAfterReads (answer_of r) (Created output ∷ []) [] s l × MakesFile written before output (can_create output s.creatable) r)
+    → IfKnown known left (λ s l. AsksAfterReads (ran_out (answer_of r)) (Created output ∷ []) [] s l × MakesFile written before output (can_create output s.creatable) r)
     → IfKnown known left (λ s l. AreShort s → AsksAndMakes written reading profile before [] output s l r)
 pack-made written reading profile before output known left r makes =
     IfKnown-weaker known left _ (λ s l. AreShort s → AsksAndMakes written reading profile before [] output s l r) makes (λ s l h short.
@@ -114,7 +112,7 @@ pack-next written reading profile before file names output known mid left plan r
     let more : List Ask = asks_for_plans reading names (Created output ∷ []) (after (ask_of file) s) in
     let reads : List Ask = asks_for_plans reading names [] (after (ask_of file) s) in
     let message : Option (List ℕ) = plan_message reading file (taken_by (ask_of file) s) in (
-      same-asks (answer_of r) (ask_of file) more reads message s l taken.1.0 (asks-more (answer_of r) (ask_of file) more reads s l here.0),
+      same-asks (ran_out (answer_of r)) (ask_of file) more reads message s l taken.1.0 (asks-more (ran_out (answer_of r)) (ask_of file) more reads s l here.0),
       packs-next written reading profile before file names output s l plan r taken.1.0 taken.1.1 here.1,
     ))
 
@@ -128,7 +126,7 @@ pack-stopped {O} written reading profile before file names output known mid stop
     let message : Option (List ℕ) = plan_message reading file (taken_by (ask_of file) s) in
     let others : Option (List ℕ) = plan_messages reading names (after (ask_of file) s) in
     let first : Explains stop (option_or message others) = first-explains stop message others taken.1 in (
-      asks-stopped O file (asks_for_plans reading names (Created output ∷ []) (after (ask_of file) s)) (asks_for_plans reading names [] (after (ask_of file) s)) message stop s left taken.1 taken.0,
+      asks-stopped file (asks_for_plans reading names (Created output ∷ []) (after (ask_of file) s)) (asks_for_plans reading names [] (after (ask_of file) s)) message stop s left taken.1 taken.0,
       (first-explains stop (option_or message others) (Some (unusable output)) first, inl (inl taken.0, first)),
     ))
 
@@ -165,10 +163,10 @@ names-first (name ∷ rest) item default file some is same =
 
 pub pack-own : {O : Type 0} (written : O → Option (List ℕ)) (reading : Reading) (profile : Profile) (names : List (List ℕ)) (output : List ℕ) (known : Option Sources) (stop : Stop)
     → reads_file names output ≡ true → is_refusal stop ≡ true → Explains stop (Some (unusable output))
-    → IfKnown known known (λ s l. AreShort s → AsksAfterReads {T = O} (Err stop) (pack_asks reading names output s) (pack_reads reading names output s) s l × PacksFiles {O = O} written reading profile names output s l (Err (stop, None)))
+    → IfKnown known known (λ s l. AreShort s → AsksAfterReads (is_starved stop) (pack_asks reading names output s) (pack_reads reading names output s) s l × PacksFiles {O = O} written reading profile names output s l (Err (stop, None)))
 pack-own {O} written reading profile names output known stop own refused why =
-    IfKnown-none known (λ s l. AreShort s → AsksAfterReads {T = O} (Err stop) (pack_asks reading names output s) (pack_reads reading names output s) s l × PacksFiles {O = O} written reading profile names output s l (Err (stop, None))) (λ s short. (
-      subst (λ b. AsksAfterReads {T = O} (Err stop) (cond b [] (asks_for_plans reading names (Created output ∷ []) s)) (cond b [] (asks_for_plans reading names [] s)) s s) (sym own) (asks-all {T = O} (Err stop) [] s s refl),
+    IfKnown-none known (λ s l. AreShort s → AsksAfterReads (is_starved stop) (pack_asks reading names output s) (pack_reads reading names output s) s l × PacksFiles {O = O} written reading profile names output s l (Err (stop, None))) (λ s short. (
+      subst (λ b. AsksAfterReads (is_starved stop) (cond b [] (asks_for_plans reading names (Created output ∷ []) s)) (cond b [] (asks_for_plans reading names [] s)) s s) (sym own) (asks-all (is_starved stop) [] s s refl),
       Own stop own refused why refl refl,
     ))
 
@@ -194,7 +192,6 @@ names-here : (reading : Reading) (file : List ℕ) (names : List (List ℕ)) (s 
     → NamesStop reading (taken_by (ask_of file) s) stop → NamesPack reading (file ∷ names) s stop
 names-here reading file names s (Refused refusal) e here =
     subst (λ (m : Option (List ℕ)). MatchOption m (NamesPack reading names (after (ask_of file) s) (Refused refusal)) (λ message. NamesStop reading (taken_by (ask_of file) s) (Refused refusal))) (sym e) here
-names-here reading file names s WriteFault e here = absurd e
 names-here reading file names s OutOfMemory e here = names-none-refused reading (file ∷ names) s OutOfMemory (λ source. tt)
 
 -- of no file but the plan file

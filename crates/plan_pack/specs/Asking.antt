@@ -1,5 +1,5 @@
 -- The files that are asked for, in order, where a plan file is made.
-use Rattle.std.specs.Prelude.{◌≡◌, ℕ, Bool, true, false, List, [], ◌∷◌, codes, if◌then◌else◌, is_some, Result, Ok, Err}
+use Rattle.std.specs.Prelude.{◌≡◌, ℕ, Bool, true, false, List, [], ◌∷◌, codes, if◌then◌else◌, is_some}
 use Rattle.std.specs.Str.{bytes_eq}
 use Rattle.byte_io.specs.Sources.{Ask, Created, Sources, after, after_all, ask_of, taken_by, AsksPrefix}
 use Rattle.plan_pack.specs.Lists.{plan_message}
@@ -7,8 +7,6 @@ use Rattle.plan_pack.specs.Migrated.{IsNoPlanFile, IsSourceOf}
 use Rattle.plan_pack.specs.declared.notation.Reading.{Reading}
 use Rattle.plan_pack.specs.declared.stop.Refusal.{Refusal}
 use Rattle.lit_plan.specs.Plans.{Plan}
-use Rattle.plan_pack.specs.declared.stop.Stop.{Stop}
-use Rattle.plan_pack.specs.declared.stop.Stop.TheVariants.{OutOfMemory, Refused, WriteFault}
 
 -- whether an operand is the file of this name; `-` is standard input
 abbrev pub is_file : List ℕ → List ℕ → Bool
@@ -45,16 +43,14 @@ pub data LeavesMigrate (input output : List ℕ) (s left : Sources) : Type 0 whe
       → LeavesMigrate input output s left
 
 -- this holds, unless memory ran out: then some of the reads were asked for, from their start, and nothing else
-abbrev pub UnlessStarved : {T : Type 0} → Result T Stop → Type 0 → List Ask → Sources → Sources → Type 0
-UnlessStarved (Ok _) P reads s left = P
-UnlessStarved (Err (Refused refusal)) P reads s left = P
-UnlessStarved (Err WriteFault) P reads s left = P
-UnlessStarved (Err OutOfMemory) P reads s left = AsksPrefix reads s left
+abbrev pub UnlessStarved : Bool → Type 0 → List Ask → Sources → Sources → Type 0
+UnlessStarved false P reads s left = P
+UnlessStarved true P reads s left = AsksPrefix reads s left
 
 -- all asks were made; where memory ran out, reads alone
-abbrev pub AsksAfterReads : {T : Type 0} → Result T Stop → List Ask → List Ask → Sources → Sources → Type 0
-AsksAfterReads result all reads s left = UnlessStarved result (left ≡ after_all all s) reads s left
+abbrev pub AsksAfterReads : Bool → List Ask → List Ask → Sources → Sources → Type 0
+AsksAfterReads starved all reads s left = UnlessStarved starved (left ≡ after_all all s) reads s left
 
 -- where all asks are reads: all were made, unless memory ran out
-abbrev pub Asks : {T : Type 0} → Result T Stop → List Ask → Sources → Sources → Type 0
-Asks result reads s left = AsksAfterReads result reads reads s left
+abbrev pub Asks : Bool → List Ask → Sources → Sources → Type 0
+Asks starved reads s left = AsksAfterReads starved reads reads s left

@@ -1,4 +1,5 @@
 pub mod Asking
+pub mod Certificates
 pub mod Faults
 pub mod Lists
 pub mod Messages

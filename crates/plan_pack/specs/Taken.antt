@@ -1,25 +1,36 @@
--- What a file gave when it was read: its list, its plan, its plans or its text; or why there is none.
-use Rattle.std.specs.Prelude.{◌≡◌, ◌≢◌, ◌↔◌, ℕ, List, [], Contains, IfSome, IsTrue, MatchResult, ⊤, Option, None, Result, Ok, Err}
+-- What a file gave when it was read: its list, its plan, its plans, its certificate or its text; or why there is none.
+use Rattle.std.specs.Prelude.{◌≡◌, ◌≢◌, ◌↔◌, ℕ, List, [], Contains, IfSome, IsTrue, MatchResult, ⊤, Option, None, Some, Result, Ok, Err}
 use Rattle.std.specs.Global.{Vec}
-use Rattle.byte_io.specs.Sources.{Content, Sources, ask_of, taken_by}
+use Rattle.std.specs.List.{slice_get}
+use Rattle.byte_io.specs.Sources.{Ask, Content, Sources, taken_by}
+use Rattle.lit_cert.specs.Certificates.{CertificateParts}
 use Rattle.lit_plan.specs.Plans.{Plan}
 use Rattle.lit_base.specs.Literals.{Literals}
 use Rattle.plan_pack.specs.Lists.{ArePlaces, IsPlanOf, NamesRefused, empty_message, input_message, list_in, list_message, patterns_in, plan_message, text_in}
 use Rattle.lit_base.specs.declared.lit_list.Normal.{Normal}
 use Rattle.lit_base.specs.declared.profile.Profile.{Profile}
 use Rattle.plan_pack.specs.Migrated.{IsNoPlanFile, IsSourceOf}
+use Rattle.plan_pack.specs.Certificates.{IsCertificateIn, IsNoCertificate}
+use Rattle.plan_pack.specs.PlanFiles.{IsNoPlanAt, IsPlanAt, IsTooFew}
 use Rattle.plan_pack.specs.Stops.{Explains}
 use Rattle.plan_pack.specs.declared.notation.Reading.{Reading}
+use Rattle.plan_pack.specs.declared.stop.Refusal.{Refusal}
 use Rattle.plan_pack.specs.declared.stop.Stop.{Stop}
-use Rattle.plan_pack.specs.declared.stop.Stop.TheVariants.{OutOfMemory, Refused, WriteFault}
+use Rattle.plan_pack.specs.declared.stop.Stop.TheVariants.{OutOfMemory, Refused}
 
--- if the files are known, the file of this name can be opened
-abbrev pub CanBeOpened : Option Sources → List ℕ → Type 0
-CanBeOpened known name = IfSome known (λ s. taken_by (ask_of name) s ≢ None)
+-- if the files are known, what is asked for can be opened
+abbrev pub CanBeOpened : Option Sources → Ask → Type 0
+CanBeOpened known ask = IfSome known (λ s. taken_by ask s ≢ None)
 
 -- something was read only of what can be opened, and memory ran out only after the open
-abbrev pub OpensBeforeMemory : {T : Type 0} → Option Sources → List ℕ → Result T Stop → Type 0
-OpensBeforeMemory known name r = MatchResult r (λ x. CanBeOpened known name) (λ stop. stop ≡ OutOfMemory → CanBeOpened known name)
+abbrev pub OpensBeforeMemory : {T : Type 0} → Option Sources → Ask → Result T Stop → Type 0
+OpensBeforeMemory known ask r = MatchResult r (λ x. CanBeOpened known ask) (λ stop. stop ≡ OutOfMemory → CanBeOpened known ask)
+
+-- what was taken is right; or the refusal is right; or memory ran out
+abbrev pub Takes : {T : Type 0} → (T → Type 0) → (Refusal → Type 0) → Result T Stop → Type 0
+Takes is_right is_why (Ok x) = is_right x
+Takes is_right is_why (Err (Refused refusal)) = is_why refusal
+Takes is_right is_why (Err OutOfMemory) = ⊤
 
 -- a file of patterns was read: its list, or why it has none
 abbrev pub TakesList : Reading → List ℕ → Option Content → Result Literals Stop → Type 0
@@ -36,7 +47,6 @@ TakesPlaces reading name source (Err stop) = Explains stop (list_message reading
 -- where patterns were refused, the refusal is the first one
 abbrev pub NamesStop : Reading → Option Content → Stop → Type 0
 NamesStop reading source (Refused refusal) = NamesRefused reading source refusal
-NamesStop reading source WriteFault = ⊤
 NamesStop reading source OutOfMemory = ⊤
 
 -- the patterns were planned: their plan, or why there is none
@@ -51,10 +61,19 @@ PlansList profile list (Err stop) = Explains stop (empty_message list)
 
 -- a plan file was read: its plans, or why there are none
 abbrev pub TakesPlans : List ℕ → Option Content → Result (Vec Plan) Stop → Type 0
-TakesPlans name source (Ok plans) = IsSourceOf source plans.items
-TakesPlans name source (Err (Refused refusal)) = IsNoPlanFile name source refusal
-TakesPlans name source (Err WriteFault) = ⊥
-TakesPlans name source (Err OutOfMemory) = ⊤
+TakesPlans name source r = Takes (λ plans. IsSourceOf source plans.items) (IsNoPlanFile name source) r
+
+-- a plan file was read: its plan of this number, or why there is none
+abbrev pub TakesPlanAt : List ℕ → ℕ → Option Content → Result Plan Stop → Type 0
+TakesPlanAt name place source r = Takes (IsPlanAt place source) (IsNoPlanAt name place source) r
+
+-- one of some plans was picked, by its number
+abbrev pub PicksPlan : List ℕ → ℕ → List Plan → Result Plan Stop → Type 0
+PicksPlan name place plans r = Takes (λ plan. slice_get plans place ≡ Some plan) (IsTooFew name place plans) r
+
+-- a certificate was read, or why there is none
+abbrev pub TakesCertificate : List ℕ → Option Content → Result CertificateParts Stop → Type 0
+TakesCertificate name source r = Takes (IsCertificateIn source) (IsNoCertificate name source) r
 
 -- an input was read whole, or why it was not
 abbrev pub TakesText : List ℕ → Option Content → Result (Vec ℕ) Stop → Type 0

@@ -6,7 +6,7 @@ ghost use Rattle.plan_pack.specs.Asking.{AsksAfterReads, LeavesMigrate, UnlessSt
 ghost use Rattle.plan_pack.specs.Migrated.{AreMigrated, IsMigrated, migrated_line, migrated_lines};
 ghost use Rattle.plan_pack.specs.Migrating.{MakesMigrated, Migrates};
 ghost use Rattle.plan_pack.specs.Packing.{NoneIfStarved, answer_of};
-ghost use Rattle.plan_pack.specs.Stops.{is_refusal, is_write};
+ghost use Rattle.plan_pack.specs.Stops.{is_refusal, ran_out};
 ghost use Rattle.plan_pack.specs.Taken.{OpensBeforeMemory};
 
 use crate::fault::Fault;
@@ -36,16 +36,15 @@ pub fn migrate_file<'a, F: Files>(
     files: &mut F,
 ) -> Result<(Vec<u8>, F::Output), Unmade<'a, F::Output>>
     ensures migrated { IfKnown (F.sources files.old) (F.sources files.new) (λ s left. AreShort s
-        → UnlessStarved (answer_of result) (LeavesMigrate input.now output.now s left) (ask_of input.now ∷ []) s left
+        → UnlessStarved (ran_out (answer_of result)) (LeavesMigrate input.now output.now s left) (ask_of input.now ∷ []) s left
         × Migrates F.Output.written input.now output.now s left result) }
-    ensures opens { OpensBeforeMemory (F.sources files.old) input.now (answer_of result) }
+    ensures opens { OpensBeforeMemory (F.sources files.old) (ask_of input.now) (answer_of result) }
 
     // Whatever is known of the files, no write failed to a file that is returned, and one did to a file that is
     // refused.
     ensures flag { IfOk result (λ done. F.Output.has_failed done.1 ≡ false) }
     ensures broken { IfErr result (λ stopped. IfSome stopped.1 (λ made. F.Output.has_failed made ≡ is_refusal stopped.0)) }
     ensures starved { NoneIfStarved result }
-    ensures unwritten { IfErr result (λ stopped. is_write stopped.0 ≡ false) }
 {
     match plans_of(alloc, input, files) {
         Ok(plans) => migrate_to(alloc, plans.as_slice(), output, files),
@@ -62,12 +61,11 @@ fn migrate_to<'a, F: Files>(
 ) -> Result<(Vec<u8>, F::Output), Unmade<'a, F::Output>>
     requires { length plans.now ≤ 64 }
     ensures migrated { IfKnown (F.sources files.old) (F.sources files.new) (λ s left.
-        AsksAfterReads (answer_of result) (Created name.now ∷ []) [] s left
+        AsksAfterReads (ran_out (answer_of result)) (Created name.now ∷ []) [] s left
         × MakesMigrated F.Output.written plans.now name.now s left result) }
     ensures flag { IfOk result (λ done. F.Output.has_failed done.1 ≡ false) }
     ensures broken { IfErr result (λ stopped. IfSome stopped.1 (λ made. F.Output.has_failed made ≡ is_refusal stopped.0)) }
     ensures starved { NoneIfStarved result }
-    ensures unwritten { IfErr result (λ stopped. is_write stopped.0 ≡ false) }
 {
     match migrate_with_lines(alloc, plans) {
         Ok((new, lines)) => match make(alloc, new.as_slice(), name, files) {

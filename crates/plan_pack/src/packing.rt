@@ -4,7 +4,7 @@ ghost use Rattle.byte_io.specs.Devices.{IfKnown};
 ghost use Rattle.byte_io.specs.Sources.{AreShort, Created, can_create};
 ghost use Rattle.plan_pack.specs.Asking.{AsksAfterReads, asks_for_plans, is_file, pack_asks, pack_reads, reads_file};
 ghost use Rattle.plan_pack.specs.Packing.{MakesFile, MakesPack, NamesPack, NoneIfStarved, PacksFiles, answer_of};
-ghost use Rattle.plan_pack.specs.Stops.{is_refusal, is_write};
+ghost use Rattle.plan_pack.specs.Stops.{is_refusal, ran_out};
 
 use crate::notation::Reading;
 use crate::planning::plan_of;
@@ -47,7 +47,7 @@ pub fn pack<'a, F: Files>(
 ) -> Result<F::Output, Unmade<'a, F::Output>>
     requires { length names.now ≤ 64 }
     ensures packed { IfKnown (F.sources files.old) (F.sources files.new) (λ s left. AreShort s
-        → AsksAfterReads (answer_of result) (pack_asks reading (map string_bytes names.now) output.now s)
+        → AsksAfterReads (ran_out (answer_of result)) (pack_asks reading (map string_bytes names.now) output.now s)
         (pack_reads reading (map string_bytes names.now) output.now s) s left
         × PacksFiles F.Output.written reading profile (map string_bytes names.now) output.now s left result) }
 
@@ -60,7 +60,6 @@ pub fn pack<'a, F: Files>(
     ensures flag { IfOk result (λ made. F.Output.has_failed made ≡ false) }
     ensures broken { IfErr result (λ stopped. IfSome stopped.1 (λ made. F.Output.has_failed made ≡ is_refusal stopped.0)) }
     ensures starved { NoneIfStarved result }
-    ensures unwritten { IfErr result (λ stopped. is_write stopped.0 ≡ false) }
 {
     if reads_file(names, output) {
         return Err((Stop::Refused(Refusal::Unusable(output)), None));
@@ -109,7 +108,7 @@ fn pack_with<'a, F: Files>(
 ) -> Result<F::Output, Unmade<'a, F::Output>>
     requires { length plans.items + length names.now ≤ 64 }
     ensures packed { IfKnown (F.sources files.old) (F.sources files.new) (λ s left. AreShort s
-        → AsksAfterReads (answer_of result) (asks_for_plans reading (map string_bytes names.now) (Created output.now ∷ []) s)
+        → AsksAfterReads (ran_out (answer_of result)) (asks_for_plans reading (map string_bytes names.now) (Created output.now ∷ []) s)
         (asks_for_plans reading (map string_bytes names.now) [] s) s left
         × MakesPack F.Output.written reading profile plans.items (map string_bytes names.now) output.now s left result) }
     ensures named { IfErr result (λ stopped. IfKnown (F.sources files.old) (F.sources files.new) (λ s left. AreShort s
@@ -117,7 +116,6 @@ fn pack_with<'a, F: Files>(
     ensures flag { IfOk result (λ made. F.Output.has_failed made ≡ false) }
     ensures broken { IfErr result (λ stopped. IfSome stopped.1 (λ made. F.Output.has_failed made ≡ is_refusal stopped.0)) }
     ensures starved { NoneIfStarved result }
-    ensures unwritten { IfErr result (λ stopped. is_write stopped.0 ≡ false) }
 {
     match names {
         [] => make(alloc, plans.as_slice(), output, files),
@@ -156,12 +154,11 @@ pub fn make<'a, F: Files>(
 ) -> Result<F::Output, Unmade<'a, F::Output>>
     requires { length plans.now ≤ 64 }
     ensures made { IfKnown (F.sources files.old) (F.sources files.new) (λ s left.
-        AsksAfterReads (answer_of result) (Created name.now ∷ []) [] s left
+        AsksAfterReads (ran_out (answer_of result)) (Created name.now ∷ []) [] s left
         × MakesFile F.Output.written plans.now name.now (can_create name.now s.creatable) result) }
     ensures flag { IfOk result (λ made. F.Output.has_failed made ≡ false) }
     ensures broken { IfErr result (λ stopped. IfSome stopped.1 (λ made. F.Output.has_failed made ≡ is_refusal stopped.0)) }
     ensures starved { NoneIfStarved result }
-    ensures unwritten { IfErr result (λ stopped. is_write stopped.0 ≡ false) }
 {
     // The text comes first, so that want of memory leaves a file of this name as it is.
     let Ok(text) = encode(alloc, plans) else {

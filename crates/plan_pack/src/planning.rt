@@ -1,8 +1,7 @@
 //! The plan of a file of patterns.
-ghost use Rattle.std.specs.Prelude.{◌≡◌, ◌⊎◌, IfErr, false};
+ghost use Rattle.std.specs.Prelude.{◌≡◌, ◌⊎◌, IfErr};
 ghost use Rattle.byte_io.specs.Devices.{IfKnown};
 ghost use Rattle.byte_io.specs.Sources.{AreShort, after, ask_of, taken_by};
-ghost use Rattle.plan_pack.specs.Stops.{is_write};
 ghost use Rattle.plan_pack.specs.Taken.{NamesStop, OpensBeforeMemory, PlansList, TakesPlan};
 ghost use Rattle.plan_pack.specs.declared.stop.Refusal.TheVariants.{NoLiterals};
 ghost use Rattle.plan_pack.specs.declared.stop.Stop.TheVariants.{OutOfMemory, Refused};
@@ -35,8 +34,7 @@ pub fn plan_of<'a, F: Files>(
     // Where patterns are refused, the refusal names one.
     ensures named { IfErr result (λ stop. IfKnown (F.sources files.old) (F.sources files.new) (λ s left. AreShort s
         → NamesStop reading (taken_by (ask_of file.now) s) stop)) }
-    ensures starved { OpensBeforeMemory (F.sources files.old) file.now result }
-    ensures unwritten { IfErr result (λ stop. is_write stop ≡ false) }
+    ensures starved { OpensBeforeMemory (F.sources files.old) (ask_of file.now) result }
 {
     match list_of(alloc, reading, file, files) {
         Ok(list) => planned(alloc, profile, list),
@@ -48,7 +46,6 @@ pub fn plan_of<'a, F: Files>(
 fn planned<'a>(alloc: Global, profile: Profile, list: LitList) -> Result<Compiled, Stop<'a>>
     ensures plan { PlansList profile list result }
     ensures faults { IfErr result (λ stop. (stop ≡ Refused NoLiterals) ⊎ (stop ≡ OutOfMemory)) }
-    ensures unwritten { IfErr result (λ stop. is_write stop ≡ false) }
 {
     match compile(alloc, list, profile) {
         Ok(compiled) => Ok(compiled),

@@ -1,17 +1,17 @@
-//! Reading a file of patterns, a plan file, and the input of a search.
-ghost use Rattle.std.specs.Prelude.{◌≡◌, ◌≢◌, ◌≤◌, ◌↔◌, [], length, Contains, IfErr, IfOk, IsTrue, MatchResult, None, Some, false};
+//! Reading a file of patterns, a plan file, a certificate, and the input of a search.
+ghost use Rattle.std.specs.Prelude.{◌≡◌, ◌≢◌, ◌≤◌, ◌↔◌, [], length, Contains, IfErr, IfOk, IsTrue, MatchResult, None, Some};
 ghost use Rattle.byte_io.specs.Devices.{IfKnown};
-ghost use Rattle.byte_io.specs.Sources.{AreShort, Content, IsShort, after, ask_of, coming_of, taken_by};
+ghost use Rattle.byte_io.specs.Sources.{AreShort, Content, IsShort, Named, after, ask_of, coming_of, taken_by};
 ghost use Rattle.plan_pack.specs.Lists.{ArePlaces, literals_of};
 ghost use Rattle.plan_pack.specs.Notations.{list_refusal, patterns_of};
-ghost use Rattle.plan_pack.specs.Stops.{is_write};
-ghost use Rattle.plan_pack.specs.Taken.{NamesStop, OpensBeforeMemory, TakesList, TakesPlaces, TakesPlans, TakesText};
+ghost use Rattle.plan_pack.specs.Taken.{NamesStop, OpensBeforeMemory, PicksPlan, TakesCertificate, TakesList, TakesPlaces, TakesPlanAt, TakesPlans, TakesText};
 
 use crate::notation::Reading;
 use crate::patterns::{Unlisted, patterns_of};
 use crate::stop::{Refusal, Stop};
 use byte_io::{ByteIn, Files, ReadError, open_operand, read_to_end};
 use lit_base::{Fault, LitList, Normal};
+use lit_cert::{Certificate, read_cert};
 use lit_plan::Compiled;
 use plan_file::read_plans;
 use std::alloc::Global;
@@ -35,8 +35,7 @@ pub fn list_of<'a, F: Files>(
     // Where patterns are refused, the refusal names one.
     ensures named { IfErr result (λ stop. IfKnown (F.sources files.old) (F.sources files.new) (λ s left. AreShort s
         → NamesStop reading (taken_by (ask_of file.now) s) stop)) }
-    ensures starved { OpensBeforeMemory (F.sources files.old) file.now result }
-    ensures unwritten { IfErr result (λ stop. is_write stop ≡ false) }
+    ensures starved { OpensBeforeMemory (F.sources files.old) (ask_of file.now) result }
 {
     match placed_list_of(alloc, reading, file, files) {
         Ok((list, _normal)) => Ok(list),
@@ -60,8 +59,7 @@ pub fn placed_list_of<'a, F: Files>(
     // Where patterns are refused, the refusal names one.
     ensures named { IfErr result (λ stop. IfKnown (F.sources files.old) (F.sources files.new) (λ s left. AreShort s
         → NamesStop reading (taken_by (ask_of file.now) s) stop)) }
-    ensures starved { OpensBeforeMemory (F.sources files.old) file.now result }
-    ensures unwritten { IfErr result (λ stop. is_write stop ≡ false) }
+    ensures starved { OpensBeforeMemory (F.sources files.old) (ask_of file.now) result }
 {
     match open_operand(files, file) {
         Ok(mut input) => list_from(alloc, reading, file, &mut input),
@@ -80,7 +78,9 @@ fn list_from<'a, I: ByteIn>(
         → TakesPlaces reading file.now (Some c) result }
     ensures named { (c : Content) → I.coming input.old ≡ Some (coming_of c) → IsShort c
         → IfErr result (NamesStop reading (Some c)) }
-    ensures unwritten { IfErr result (λ stop. is_write stop ≡ false) }
+
+    // A read that failed is not tried again, whatever is known of the input.
+    ensures unread { IfOk result (λ _. I.has_failed input.new ≡ I.has_failed input.old) }
 {
     let mut text = Vec::new(alloc);
     match read_to_end(input, reading.notation.max_text_len(), &mut text) {
@@ -122,9 +122,8 @@ pub fn plans_of<'a, F: Files>(
 ) -> Result<Vec<Compiled>, Stop<'a>>
     ensures plans { IfKnown (F.sources files.old) (F.sources files.new) (λ s left. AreShort s
         → (left ≡ after (ask_of file.now) s) × TakesPlans file.now (taken_by (ask_of file.now) s) result) }
-    ensures starved { OpensBeforeMemory (F.sources files.old) file.now result }
+    ensures starved { OpensBeforeMemory (F.sources files.old) (ask_of file.now) result }
     ensures few { IfOk result (λ plans. length plans.items ≤ 64) }
-    ensures unwritten { IfErr result (λ stop. is_write stop ≡ false) }
 {
     match open_operand(files, file) {
         Ok(mut input) => plans_from(alloc, file, &mut input),
@@ -141,7 +140,7 @@ fn plans_from<'a, I: ByteIn>(
     ensures plans { (c : Content) → I.coming input.old ≡ Some (coming_of c) → IsShort c
         → TakesPlans file.now (Some c) result }
     ensures few { IfOk result (λ plans. length plans.items ≤ 64) }
-    ensures unwritten { IfErr result (λ stop. is_write stop ≡ false) }
+    ensures unread { IfOk result (λ _. I.has_failed input.new ≡ I.has_failed input.old) }
 {
     match read_plans(alloc, input) {
         Ok(plans) => Ok(plans),
@@ -151,6 +150,81 @@ fn plans_from<'a, I: ByteIn>(
         Err(plan_file::Fault::OutOfMemory) => Err(Stop::OutOfMemory),
         Err(plan_file::Fault::ReadFault) => Err(Stop::Refused(Refusal::Unusable(file))),
         Err(plan_file::Fault::WriteFault) => unreachable!(),
+    }
+}
+
+/// The plan of this number, from 0, of a plan file, which is read as by `plans_of`.
+///
+/// # Errors
+/// - `Refused` as `plans_of` refuses, or with `NoPlan`, where the file has no plan of this number.
+/// - `OutOfMemory`, where a growth was refused, once the file is open.
+pub fn plan_at<'a, F: Files>(
+    alloc: Global,
+    file: &'a str,
+    place: usize,
+    files: &mut F,
+) -> Result<Compiled, Stop<'a>>
+    ensures plan { IfKnown (F.sources files.old) (F.sources files.new) (λ s left. AreShort s
+        → (left ≡ after (ask_of file.now) s) × TakesPlanAt file.now place (taken_by (ask_of file.now) s) result) }
+    ensures starved { OpensBeforeMemory (F.sources files.old) (ask_of file.now) result }
+{
+    match plans_of(alloc, file, files) {
+        Ok(plans) => picked(file, place, plans),
+        Err(stop) => Err(stop),
+    }
+}
+
+/// The plan of this number among the plans of a file.
+fn picked<'a>(file: &'a str, place: usize, plans: Vec<Compiled>) -> Result<Compiled, Stop<'a>>
+    ensures { PicksPlan file.now place plans.items result }
+{
+    let mut plans = plans;
+    if place >= plans.len() {
+        return Err(Stop::Refused(Refusal::NoPlan { file, place }));
+    }
+    Ok(plans.swap_remove(place))
+}
+
+/// The certificate in the file of a name, which is read to its end unless a line of it is wrong. The name `-` is a file's
+/// too.
+///
+/// # Errors
+/// - `Refused` with the file's name, where it cannot be opened or read; or with the first wrong line, where its text is
+///   no certificate's.
+/// - `OutOfMemory`, where a growth was refused, once the file is open.
+pub fn certificate_of<'a, F: Files>(
+    alloc: Global,
+    name: &'a str,
+    files: &mut F,
+) -> Result<Certificate, Stop<'a>>
+    ensures certificate { IfKnown (F.sources files.old) (F.sources files.new) (λ s left. AreShort s
+        → (left ≡ after (Named name.now) s) × TakesCertificate name.now (taken_by (Named name.now) s) result) }
+    ensures starved { OpensBeforeMemory (F.sources files.old) (Named name.now) result }
+{
+    match files.open_named(name) {
+        Ok(mut input) => certificate_from(alloc, name, &mut input),
+        Err(_) => Err(Stop::Refused(Refusal::Unusable(name))),
+    }
+}
+
+/// The certificate in a file that is open.
+fn certificate_from<'a, I: ByteIn>(
+    alloc: Global,
+    name: &'a str,
+    input: &mut I,
+) -> Result<Certificate, Stop<'a>>
+    ensures certificate { (c : Content) → I.coming input.old ≡ Some (coming_of c) → IsShort c
+        → TakesCertificate name.now (Some c) result }
+    ensures unread { IfOk result (λ _. I.has_failed input.new ≡ I.has_failed input.old) }
+{
+    match read_cert(alloc, input) {
+        Ok(certificate) => Ok(certificate),
+        Err(lit_cert::Fault::BadCertText { line }) => {
+            Err(Stop::Refused(Refusal::NoCertificate { line }))
+        }
+        Err(lit_cert::Fault::OutOfMemory) => Err(Stop::OutOfMemory),
+        Err(lit_cert::Fault::ReadFault) => Err(Stop::Refused(Refusal::Unusable(name))),
+        Err(lit_cert::Fault::WriteFault) => unreachable!(),
     }
 }
 
@@ -166,8 +240,7 @@ pub fn text_of<'a, F: Files>(
 ) -> Result<Vec<u8>, Stop<'a>>
     ensures text { IfKnown (F.sources files.old) (F.sources files.new) (λ s left. AreShort s
         → (left ≡ after (ask_of operand.now) s) × TakesText operand.now (taken_by (ask_of operand.now) s) result) }
-    ensures starved { OpensBeforeMemory (F.sources files.old) operand.now result }
-    ensures unwritten { IfErr result (λ stop. is_write stop ≡ false) }
+    ensures starved { OpensBeforeMemory (F.sources files.old) (ask_of operand.now) result }
 {
     match open_operand(files, operand) {
         Ok(mut input) => text_from(alloc, operand, &mut input),
@@ -183,7 +256,7 @@ fn text_from<'a, I: ByteIn>(
 ) -> Result<Vec<u8>, Stop<'a>>
     ensures text { (c : Content) → I.coming input.old ≡ Some (coming_of c) → IsShort c
         → TakesText operand.now (Some c) result }
-    ensures unwritten { IfErr result (λ stop. is_write stop ≡ false) }
+    ensures unread { IfOk result (λ _. I.has_failed input.new ≡ I.has_failed input.old) }
 {
     let mut text = Vec::new(alloc);
     match read_to_end(input, usize::MAX, &mut text) {

@@ -1,4 +1,4 @@
-//! Why a run stops before its answer is written.
+//! Why a call has no result.
 ghost use Rattle.std.specs.Prelude.{◌≡◌};
 ghost use Rattle.plan_pack.specs.declared.stop.Stop.TheVariants.{OutOfMemory};
 
@@ -6,8 +6,7 @@ use lit_base::Fault;
 use plan_file::Cause;
 use std::alloc::AllocError;
 
-/// Why a request has a message in place of an answer. No call of this crate returns `NoCertificate` or `NoPlan`: they
-/// are for its callers.
+/// Why a file is refused.
 #[derive(Clone, Copy, Debug)]
 pub enum Refusal<'a> {
     /// The file of this name cannot be opened, made, read or written.
@@ -26,13 +25,11 @@ pub enum Refusal<'a> {
     NoPlan { file: &'a str, place: usize },
 }
 
-/// Why a run stops before its answer is written.
+/// Why a call has no result.
 #[derive(Clone, Copy, Debug)]
 pub enum Stop<'a> {
-    /// The request has a message in place of an answer.
+    /// A file is refused.
     Refused(Refusal<'a>),
-    /// A write to standard output failed. No call of this crate returns it.
-    WriteFault,
     /// A growth was refused.
     OutOfMemory,
 }

@@ -5,8 +5,8 @@ use Rattle.byte_io.specs.Devices.{IfKnown}
 use Rattle.byte_io.specs.Sources.{AreShort, Sources}
 use Rattle.byte_io.proofs.KnownLemmas.{IfKnown-weaker}
 use Rattle.plan_pack.specs.Messages.{message_on}
-use Rattle.plan_pack.specs.declared.stop.Stop.{Stop}
-use Rattle.plan_pack.specs.declared.stop.Stop.TheVariants.{OutOfMemory, Refused, WriteFault}
+use Rattle.plan_run.specs.declared.stop.Stop.{Stop}
+use Rattle.plan_run.specs.declared.stop.Stop.TheVariants.{OutOfMemory, Refused, WriteFault}
 use Rattle.plan_run.specs.Answers.{refused_with}
 use Rattle.plan_run.specs.Running.{Answers, Broken, Ends, SaysStop, Starved, Unsaid, Whole, is_write_fault}
 use Rattle.plan_run.specs.declared.request.Request.{Request}

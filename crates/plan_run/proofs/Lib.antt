@@ -3,5 +3,5 @@ pub mod EndLemmas
 pub mod ListingLemmas
 pub mod MigrateLemmas
 pub mod PackLemmas
-pub mod PlanAtLemmas
 pub mod RequestLemmas
+pub mod SpanLemmas

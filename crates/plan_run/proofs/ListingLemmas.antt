@@ -8,8 +8,8 @@ use Rattle.std.proofs.lemmas.List.{take_at, take-append-le}
 use Rattle.std.proofs.lemmas.List.Concat.{flat_map-append}
 use Rattle.lit_base.specs.Literals.{Literals}
 use Rattle.byte_io.specs.Transfers.{AppendsPart}
-use Rattle.plan_pack.specs.declared.stop.Stop.{Stop}
-use Rattle.plan_pack.specs.declared.stop.Stop.TheVariants.{OutOfMemory, Refused, WriteFault}
+use Rattle.plan_run.specs.declared.stop.Stop.{Stop}
+use Rattle.plan_run.specs.declared.stop.Stop.TheVariants.{OutOfMemory, Refused, WriteFault}
 use Rattle.plan_view.specs.Quotes.{whole}
 use Rattle.plan_run.specs.Listings.{hit_line, hit_lines, hits_text, line_of, literal_line}
 use Rattle.plan_run.specs.Running.{Writes}

@@ -11,22 +11,24 @@ use Rattle.plan_pack.specs.Asking.{LeavesMigrate, UnlessStarved}
 use Rattle.plan_pack.specs.Messages.{message_on, unusable}
 use Rattle.plan_pack.specs.Migrated.{IsSourceOf}
 use Rattle.plan_pack.specs.Migrating.{Kept, LeavesMigrated, Migrates, Moved}
-use Rattle.plan_pack.specs.Stops.{Explains, is_refusal}
+use Rattle.plan_pack.specs.Stops.{Explains, is_refusal, is_starved as halts}
 use Rattle.plan_pack.specs.Taken.{TakesPlans}
-use Rattle.plan_pack.specs.declared.stop.Stop.{Stop}
-use Rattle.plan_pack.specs.declared.stop.Stop.TheVariants.{OutOfMemory, Refused, WriteFault}
-use Rattle.plan_pack.proofs.AskLemmas.{unstarved}
+use Rattle.plan_pack.specs.declared.stop.Stop.{Stop as Halt}
+use Rattle.plan_pack.specs.declared.stop.Stop.TheVariants.{OutOfMemory as Starving, Refused as Halted}
+use Rattle.plan_run.specs.declared.stop.Stop.{Stop}
+use Rattle.plan_run.specs.declared.stop.Stop.TheVariants.{OutOfMemory, Refused, WriteFault}
 use Rattle.plan_pack.proofs.PackLemmas.{same-creatable}
 use Rattle.plan_run.specs.Answers.{AnswersMigrate, CutShort, Migrated, NoPlans, NotMade, refused_with, printed}
-use Rattle.plan_run.specs.Running.{Answers, Reports, Writes}
+use Rattle.plan_run.specs.Running.{Answers, Reports, Writes, runs_out}
+use Rattle.plan_run.specs.Stops.{is_starved, widened}
 use Rattle.plan_run.specs.declared.request.Request.TheVariants.{Migrate}
 use Rattle.plan_run.specs.declared.status.Status.{Status}
 use Rattle.plan_run.specs.declared.status.Status.TheVariants.{Done}
-use Rattle.plan_run.proofs.AnswerLemmas.{reports-silent, reports-text}
+use Rattle.plan_run.proofs.AnswerLemmas.{reports-silent, reports-text, unless-widened}
 
 -- what was asked for, where the answer is written and no memory is wanted
 leaves-unless : (r : Result Status Stop) (input output : List ℕ) (s left : Sources) → r ≢ Err OutOfMemory → LeavesMigrate input output s left
-    → UnlessStarved r (LeavesMigrate input output s left) (ask_of input ∷ []) s left
+    → UnlessStarved (runs_out r) (LeavesMigrate input output s left) (ask_of input ∷ []) s left
 leaves-unless (Ok status) input output s left fed leaves = leaves
 leaves-unless (Err (Refused refusal)) input output s left fed leaves = leaves
 leaves-unless (Err WriteFault) input output s left fed leaves = leaves
@@ -46,66 +48,64 @@ reports-moved written has_failed input output s left lines made r old new whole 
 
 pub migrate-printed : {O : Type 0} (written : O → Option (List ℕ)) (has_failed : O → Bool) (input output : List ℕ) (known left : Option Sources) (lines : Vec ℕ) (made : O) (r : Result Status Stop) (old new : Option (List ℕ))
     → has_failed made ≡ false
-    → IfKnown known left (λ s l. AreShort s → UnlessStarved {T = Vec ℕ × O} (Ok (lines, made)) (LeavesMigrate input output s l) (ask_of input ∷ []) s l × Migrates written input output s l (Ok (lines, made)))
+    → IfKnown known left (λ s l. AreShort s → UnlessStarved false (LeavesMigrate input output s l) (ask_of input ∷ []) s l × Migrates written input output s l (Ok (lines, made)))
     → Writes lines.items Done r old new → r ≢ Err OutOfMemory
-    → IfKnown known left (λ s l. AreShort s → UnlessStarved r (LeavesMigrate input output s l) (ask_of input ∷ []) s l × Reports (AnswersMigrate written has_failed input output s) r old new)
+    → IfKnown known left (λ s l. AreShort s → UnlessStarved (runs_out r) (LeavesMigrate input output s l) (ask_of input ∷ []) s l × Reports (AnswersMigrate written has_failed input output s) r old new)
 migrate-printed written has_failed input output known left lines made r old new whole migrates writes fed =
-    IfKnown-weaker known left _ (λ s l. AreShort s → UnlessStarved r (LeavesMigrate input output s l) (ask_of input ∷ []) s l × Reports (AnswersMigrate written has_failed input output s) r old new) migrates (λ s l h short.
+    IfKnown-weaker known left _ (λ s l. AreShort s → UnlessStarved (runs_out r) (LeavesMigrate input output s l) (ask_of input ∷ []) s l × Reports (AnswersMigrate written has_failed input output s) r old new) migrates (λ s l h short.
     let done = h short in
     (leaves-unless r input output s l fed done.0, reports-moved written has_failed input output s l lines made r old new whole done.1 writes))
 
 -- why there are no plans
-reports-kept : {O : Type 0} (written : O → Option (List ℕ)) (has_failed : O → Bool) (stop : Stop) (input output : List ℕ) (s : Sources) (known : Option (List ℕ)) → TakesPlans input (taken_by (ask_of input) s) (Err stop)
-    → Reports (AnswersMigrate written has_failed input output s) (Err stop) known known
-reports-kept written has_failed (Refused refusal) input output s known takes = (NoPlans refusal takes refl, Appends-nil known)
-reports-kept written has_failed WriteFault input output s known takes = absurd takes
-reports-kept written has_failed OutOfMemory input output s known takes = reports-silent (AnswersMigrate written has_failed input output s) known
+reports-kept : {O : Type 0} (written : O → Option (List ℕ)) (has_failed : O → Bool) (stop : Halt) (input output : List ℕ) (s : Sources) (known : Option (List ℕ)) → TakesPlans input (taken_by (ask_of input) s) (Err stop)
+    → Reports (AnswersMigrate written has_failed input output s) (Err (widened stop)) known known
+reports-kept written has_failed (Halted refusal) input output s known takes = (NoPlans refusal takes refl, Appends-nil known)
+reports-kept written has_failed Starving input output s known takes = reports-silent (AnswersMigrate written has_failed input output s) known
 
 -- why the other file is not whole
-reports-unmade : {O : Type 0} (written : O → Option (List ℕ)) (has_failed : O → Bool) (stop : Stop) (begun : Option O) (input output : List ℕ) (s left : Sources) (known : Option (List ℕ)) (plans : List Plan)
+reports-unmade : {O : Type 0} (written : O → Option (List ℕ)) (has_failed : O → Bool) (stop : Halt) (begun : Option O) (input output : List ℕ) (s left : Sources) (known : Option (List ℕ)) (plans : List Plan)
     → IsSourceOf (taken_by (ask_of input) s) plans → Explains stop (Some (unusable output)) → LeavesMigrated written plans output (after (ask_of input) s) left stop begun
-    → IfSome begun (λ made. has_failed made ≡ is_refusal stop) → Reports (AnswersMigrate written has_failed input output s) (Err stop) known known
-reports-unmade written has_failed (Refused refusal) (Some made) input output s left known plans source e leaves broken =
+    → IfSome begun (λ made. has_failed made ≡ is_refusal stop) → Reports (AnswersMigrate written has_failed input output s) (Err (widened stop)) known known
+reports-unmade written has_failed (Halted refusal) (Some made) input output s left known plans source e leaves broken =
     let same : message_on refusal ≡ unusable output = (cc) in
     (CutShort plans leaves.1 made source leaves.2 (as-before input output s true leaves.0) leaves.3 broken (ap refused_with same), Appends-nil known)
-reports-unmade written has_failed (Refused refusal) None input output s left known plans source e (inl kept) broken = absurd (cc)
-reports-unmade written has_failed (Refused refusal) None input output s left known plans source e (inr cannot) broken =
+reports-unmade written has_failed (Halted refusal) None input output s left known plans source e (inl kept) broken = absurd (cc)
+reports-unmade written has_failed (Halted refusal) None input output s left known plans source e (inr cannot) broken =
     let same : message_on refusal ≡ unusable output = (cc) in
     (NotMade plans source (as-before input output s false cannot.0) (ap refused_with same), Appends-nil known)
-reports-unmade written has_failed WriteFault begun input output s left known plans source e leaves broken = absurd e
-reports-unmade written has_failed OutOfMemory begun input output s left known plans source e leaves broken = reports-silent (AnswersMigrate written has_failed input output s) known
+reports-unmade written has_failed Starving begun input output s left known plans source e leaves broken = reports-silent (AnswersMigrate written has_failed input output s) known
 
-reports-stopped : {O : Type 0} (written : O → Option (List ℕ)) (has_failed : O → Bool) (input output : List ℕ) (s left : Sources) (stopped : Stop × Option O) (known : Option (List ℕ))
+reports-stopped : {O : Type 0} (written : O → Option (List ℕ)) (has_failed : O → Bool) (input output : List ℕ) (s left : Sources) (stopped : Halt × Option O) (known : Option (List ℕ))
     → IfSome stopped.1 (λ made. has_failed made ≡ is_refusal stopped.0)
-    → Migrates written input output s left (Err stopped) → Reports (AnswersMigrate written has_failed input output s) (Err stopped.0) known known
+    → Migrates written input output s left (Err stopped) → Reports (AnswersMigrate written has_failed input output s) (Err (widened stopped.0)) known known
 reports-stopped written has_failed input output s left stopped known broken (Kept stop takes read is) =
     let same : stop ≡ stopped.0 = (cc) in
-    subst (λ x. Reports (AnswersMigrate written has_failed input output s) (Err x) known known) same (reports-kept written has_failed stop input output s known takes)
+    subst (λ x. Reports (AnswersMigrate written has_failed input output s) (Err (widened x)) known known) same (reports-kept written has_failed stop input output s known takes)
 reports-stopped written has_failed input output s left stopped known broken (Moved plans source makes) =
     reports-unmade written has_failed stopped.0 stopped.1 input output s left known plans source makes.0 makes.1 broken
 
-pub migrate-unwritten : {O : Type 0} (written : O → Option (List ℕ)) (has_failed : O → Bool) (input output : List ℕ) (known left : Option Sources) (stopped : Stop × Option O) (stop : Stop) (out : Option (List ℕ)) → stop ≡ stopped.0
+pub migrate-unwritten : {O : Type 0} (written : O → Option (List ℕ)) (has_failed : O → Bool) (input output : List ℕ) (known left : Option Sources) (stopped : Halt × Option O) (stop : Halt) (out : Option (List ℕ)) → stop ≡ stopped.0
     → IfSome stopped.1 (λ made. has_failed made ≡ is_refusal stopped.0)
-    → IfKnown known left (λ s l. AreShort s → UnlessStarved {T = Vec ℕ × O} (Err stopped.0) (LeavesMigrate input output s l) (ask_of input ∷ []) s l × Migrates written input output s l (Err stopped))
-    → IfKnown known left (λ s l. AreShort s → UnlessStarved {T = Status} (Err stop) (LeavesMigrate input output s l) (ask_of input ∷ []) s l × Reports (AnswersMigrate written has_failed input output s) (Err stop) out out)
+    → IfKnown known left (λ s l. AreShort s → UnlessStarved (halts stopped.0) (LeavesMigrate input output s l) (ask_of input ∷ []) s l × Migrates written input output s l (Err stopped))
+    → IfKnown known left (λ s l. AreShort s → UnlessStarved (is_starved (widened stop)) (LeavesMigrate input output s l) (ask_of input ∷ []) s l × Reports (AnswersMigrate written has_failed input output s) (Err (widened stop)) out out)
 migrate-unwritten {O} written has_failed input output known left stopped stop out same broken migrates =
-    IfKnown-weaker known left _ (λ s l. AreShort s → UnlessStarved {T = Status} (Err stop) (LeavesMigrate input output s l) (ask_of input ∷ []) s l × Reports (AnswersMigrate written has_failed input output s) (Err stop) out out) migrates (λ s l h short.
+    IfKnown-weaker known left _ (λ s l. AreShort s → UnlessStarved (is_starved (widened stop)) (LeavesMigrate input output s l) (ask_of input ∷ []) s l × Reports (AnswersMigrate written has_failed input output s) (Err (widened stop)) out out) migrates (λ s l h short.
     let done = h short in (
-      subst (λ x. UnlessStarved {T = Status} (Err x) (LeavesMigrate input output s l) (ask_of input ∷ []) s l) (sym same) (unstarved (Vec ℕ × O) Status (LeavesMigrate input output s l) (ask_of input ∷ []) s l stopped.0 done.0),
-      subst (λ x. Reports (AnswersMigrate written has_failed input output s) (Err x) out out) (sym same) (reports-stopped written has_failed input output s l stopped out broken done.1),
+      subst (λ x. UnlessStarved (is_starved (widened x)) (LeavesMigrate input output s l) (ask_of input ∷ []) s l) (sym same) (unless-widened stopped.0 (LeavesMigrate input output s l) (ask_of input ∷ []) s l done.0),
+      subst (λ x. Reports (AnswersMigrate written has_failed input output s) (Err (widened x)) out out) (sym same) (reports-stopped written has_failed input output s l stopped out broken done.1),
     ))
 
 -- the answer and the asks are right for the request
 pub migrate-answers : {O : Type 0} (written : O → Option (List ℕ)) (has_failed : O → Bool) (input output : String Global) (from to : List ℕ) (known left : Option Sources) (r : Result Status Stop) (old new : Option (List ℕ))
     → from ≡ string_bytes input → to ≡ string_bytes output
-    → IfKnown known left (λ s l. AreShort s → UnlessStarved r (LeavesMigrate from to s l) (ask_of from ∷ []) s l × Reports (AnswersMigrate written has_failed from to s) r old new)
+    → IfKnown known left (λ s l. AreShort s → UnlessStarved (runs_out r) (LeavesMigrate from to s l) (ask_of from ∷ []) s l × Reports (AnswersMigrate written has_failed from to s) r old new)
     → IfKnown known left (λ s l. AreShort s → Answers written has_failed (Migrate input output) s l r old new)
 migrate-answers written has_failed input output from to known left r old new here there answers =
     IfKnown-weaker known left _ (λ s l. AreShort s → Answers written has_failed (Migrate input output) s l r old new) answers (λ s l h short.
     let t = h short in
-    let asks = subst (λ y. UnlessStarved r (LeavesMigrate from y s l) (ask_of from ∷ []) s l) there t.0 in
+    let asks = subst (λ y. UnlessStarved (runs_out r) (LeavesMigrate from y s l) (ask_of from ∷ []) s l) there t.0 in
     let reports = subst (λ y. Reports (AnswersMigrate written has_failed from y s) r old new) there t.1 in
     record {
-      asks = subst (λ x. UnlessStarved r (LeavesMigrate x (string_bytes output) s l) (ask_of x ∷ []) s l) here asks;
+      asks = subst (λ x. UnlessStarved (runs_out r) (LeavesMigrate x (string_bytes output) s l) (ask_of x ∷ []) s l) here asks;
       reports = subst (λ x. Reports (AnswersMigrate written has_failed x (string_bytes output) s) r old new) here reports;
     })

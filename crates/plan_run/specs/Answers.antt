@@ -1,6 +1,5 @@
 -- What a request has to answer, for the files that there are.
-use Rattle.std.specs.Prelude.{◌≡◌, ℕ, Bool, true, false, List, [], ◌∷◌, ◌++◌, length, if◌then◌else◌, is_some, map, Option, Some, None, MatchOption, string_bytes}
-use Rattle.std.specs.List.{slice_get}
+use Rattle.std.specs.Prelude.{◌≡◌, ℕ, Bool, true, false, List, [], ◌∷◌, length, if◌then◌else◌, is_some, map, Option, Some, None, MatchOption, string_bytes}
 use Rattle.byte_io.specs.Sources.{Ask, Content, Named, Sources, after, after_all, ask_of, can_create, taken_by}
 use Rattle.lit_plan.specs.Plans as plan
 use Rattle.list_plan.specs.Planned.{IsPlanned}
@@ -12,21 +11,21 @@ use Rattle.plan_pack.specs.Asking.{LeavesMigrate, pack_asks, pack_reads, reads_f
 use Rattle.lit_base.specs.declared.profile.Profile.{Profile}
 use Rattle.lit_cert.specs.Certificates.{CertificateParts}
 use Rattle.lit_cert.specs.Certified.{IsCertified, IsFirstFailure}
-use Rattle.lit_cert.specs.Reading.{IsFirstBad}
-use Rattle.lit_cert.specs.Spelling.{HasText, spelling}
+use Rattle.lit_cert.specs.Spelling.{spelling}
 use Rattle.lit_cert.specs.declared.reason.Reason.{Reason}
 use Rattle.plan_view.specs.Drawings.{plan_svg}
 use Rattle.plan_view.specs.Texts.{plan_text}
 use Rattle.run_planner.specs.FirstCut.{IsFirstCut}
 use Rattle.plan_pack.specs.Lists.{ArePlaces, ArePlansOf, NamesRefused, input_message, list_in, list_message, patterns_in, plan_message, plan_messages, text_in}
-use Rattle.plan_pack.specs.Messages.{message_on, no_plan, refused, unusable}
+use Rattle.plan_pack.specs.Certificates.{IsCertificateIn, IsNoCertificate}
+use Rattle.plan_pack.specs.Messages.{message_on, refused, unusable}
 use Rattle.plan_pack.specs.Migrated.{AreMigrated, IsNoPlanFile, IsSourceOf, migrated_lines}
-use Rattle.plan_pack.specs.PlanFiles.{HoldsPrefix, HoldsPlans}
+use Rattle.plan_pack.specs.PlanFiles.{HoldsPrefix, HoldsPlans, IsNoPlanAt, IsPlanAt}
 use Rattle.plan_pack.specs.declared.notation.Reading.{Reading}
 use Rattle.plan_pack.specs.declared.stop.Refusal.{Refusal}
 use Rattle.plan_pack.specs.declared.stop.Refusal.TheVariants.{NoLiterals}
 use Rattle.plan_run.specs.Listings.{hits_text}
-use Rattle.plan_run.specs.Messages.{certificate_head, not_certified, optimal, wrong_input, wrong_line}
+use Rattle.plan_run.specs.Messages.{certificate_head, not_certified, optimal, wrong_input}
 use Rattle.plan_run.specs.declared.request.Listing.{Listing}
 use Rattle.plan_run.specs.declared.request.Request.{Request}
 use Rattle.plan_run.specs.declared.request.Request.TheVariants.{Check, CheckPlan, Explain, ExplainCertificate, ExplainPlan, Migrate, Pack, Plan, Scan}
@@ -72,24 +71,18 @@ pub data IsVerdict (list : Literals) (c : CertificateParts) (a : Answer) : Type 
   Holds : IsCertified list c → a ≡ printed (optimal c.cost) Done → IsVerdict list c a
   Fails : (reason : Reason) → IsFirstFailure list c reason → a ≡ printed (not_certified reason) NotCertified → IsVerdict list c a
 
--- on what stands under the certificate's name: a message where nothing does, or where reading it fails; the answer on
--- its first wrong line, where it is no certificate's text; else that on the certificate. Where reading fails, a line is
--- wrong only where it is so whatever would have followed; then either answer is right
-pub data IsCertificateAnswer (wrong : ℕ → Answer) (P : CertificateParts → Answer → Type 0) (name : List ℕ) (source : Option Content) (a : Answer) : Type 0 where
-  Missing : source ≡ None → a ≡ refused_with (unusable name) → IsCertificateAnswer wrong P name source a
-  Unread : (c : Content) → source ≡ Some c → c.is_faulty ≡ true → a ≡ refused_with (unusable name) → IsCertificateAnswer wrong P name source a
-  BadLine : (c : Content) (line : ℕ) → source ≡ Some c → IsFirstBad c.text line
-      → (c.is_faulty ≡ true → (more : List ℕ) → IsFirstBad (c.text ++ more) line) → a ≡ wrong line → IsCertificateAnswer wrong P name source a
-  Judged : (c : Content) (certificate : CertificateParts) → source ≡ Some c → c.is_faulty ≡ false → HasText certificate
-      → c.text ≡ spelling certificate → P certificate a → IsCertificateAnswer wrong P name source a
+-- on what was taken from a file: the answer about it; where nothing was, the answer to the refusal
+pub data AnswersTaken {T : Type 0} (is_right : T → Type 0) (is_why : Refusal → Type 0) (wrong : Refusal → Answer) (P : T → Answer → Type 0) (a : Answer) : Type 0 where
+  Nothing : (refusal : Refusal) → is_why refusal → a ≡ wrong refusal → AnswersTaken is_right is_why wrong P a
+  Something : (x : T) → is_right x → P x a → AnswersTaken is_right is_why wrong P a
 
--- the message on a wrong line
-abbrev pub bad_line : ℕ → Answer
-bad_line line = refused_with (refused 9)
+-- on the file of a certificate: the answer about the certificate, or to the refusal
+abbrev pub IsCertificateAnswer : (Refusal → Answer) → (CertificateParts → Answer → Type 0) → List ℕ → Option Content → Answer → Type 0
+IsCertificateAnswer wrong P name source a = AnswersTaken (IsCertificateIn source) (IsNoCertificate name source) wrong P a
 
 -- on a list and a certificate of this name: the verdict
 abbrev pub IsCheckAnswer : Literals → List ℕ → Option Content → Answer → Type 0
-IsCheckAnswer list name source a = IsCertificateAnswer bad_line (IsVerdict list) name source a
+IsCheckAnswer list name source a = IsCertificateAnswer refuses (IsVerdict list) name source a
 
 -- the message where there is one, else what has to be answered
 abbrev pub AnswersUnless : Option (List ℕ) → (Answer → Type 0) → Answer → Type 0
@@ -184,15 +177,9 @@ pub data ExplainsList (reading : Reading) (profile : Profile) (view : View) (nam
 abbrev pub AnswersExplain : Reading → Profile → View → List ℕ → Sources → Answer → Type 0
 AnswersExplain reading profile view file s a = ExplainsList reading profile view file (taken_by (ask_of file) s) a
 
--- on the plans of a file of this name: that it has none of this number, or the answer about the one
-pub data IsPlanAnswerAt (P : plan.Plan → Answer → Type 0) (name : List ℕ) (place : ℕ) (plans : List plan.Plan) (a : Answer) : Type 0 where
-  NoneThere : slice_get plans place ≡ None → a ≡ refused_with (no_plan name place) → IsPlanAnswerAt P name place plans a
-  OneThere : (p : plan.Plan) → slice_get plans place ≡ Some p → P p a → IsPlanAnswerAt P name place plans a
-
--- on a content that should be a plan file: where it is wrong, or the answer about one of its plans
-pub data AnswersPlanAt (wrong : Refusal → Answer) (P : plan.Plan → Answer → Type 0) (name : List ℕ) (place : ℕ) (source : Option Content) (a : Answer) : Type 0 where
-  NoFile : (refusal : Refusal) → IsNoPlanFile name source refusal → a ≡ wrong refusal → AnswersPlanAt wrong P name place source a
-  HasPlans : (plans : List plan.Plan) → IsSourceOf source plans → IsPlanAnswerAt P name place plans a → AnswersPlanAt wrong P name place source a
+-- on a plan file: the answer about its plan of this number, or to the refusal
+abbrev pub AnswersPlanAt : (Refusal → Answer) → (plan.Plan → Answer → Type 0) → List ℕ → ℕ → Option Content → Answer → Type 0
+AnswersPlanAt wrong P name place source a = AnswersTaken (IsPlanAt place source) (IsNoPlanAt name place source) wrong P a
 
 -- to check a plan of a plan file
 abbrev pub AnswersCheckPlan : List ℕ → ℕ → Sources → Answer → Type 0
@@ -206,17 +193,13 @@ IsPlanExplained view p a = a ≡ printed (explained p.certificate.profile view p
 abbrev pub AnswersExplainPlan : View → List ℕ → ℕ → Sources → Answer → Type 0
 AnswersExplainPlan view file place s a = AnswersPlanAt where_wrong (IsPlanExplained view) file place (taken_by (ask_of file) s) a
 
--- where a certificate is explained: which line is wrong
-abbrev pub wrong_at_line : ℕ → Answer
-wrong_at_line line = printed (wrong_line line) Wrong
-
 -- how many runs a certificate has, and their cost
 abbrev pub IsCertificateReported : CertificateParts → Answer → Type 0
 IsCertificateReported c a = a ≡ printed (certificate_head (length c.ends) c.cost) Done
 
 -- to explain a certificate
 abbrev pub AnswersExplainCertificate : List ℕ → Sources → Answer → Type 0
-AnswersExplainCertificate name s a = IsCertificateAnswer wrong_at_line IsCertificateReported name (taken_by (Named name) s) a
+AnswersExplainCertificate name s a = IsCertificateAnswer where_wrong IsCertificateReported name (taken_by (Named name) s) a
 
 -- to migrate the plans of one file to another: the message where there are none; what each plan cost and costs, where
 -- the other file was made and holds the new plans; the message where it cannot be made, or where a write to it failed,

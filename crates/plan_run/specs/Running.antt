@@ -5,12 +5,14 @@ use Rattle.byte_io.specs.Transfers.{AppendsPart, Says}
 use Rattle.byte_io.specs.Sources.{AsksPrefix, Sources}
 use Rattle.plan_pack.specs.Asking.{UnlessStarved}
 use Rattle.plan_pack.specs.Messages.{message_on}
-use Rattle.plan_pack.specs.Stops.{is_write}
+use Rattle.plan_pack.specs.declared.stop.Stop.{Stop as Halt}
+use Rattle.plan_pack.specs.declared.stop.Stop.TheVariants.{OutOfMemory as Starving, Refused as Halted}
 use Rattle.plan_pack.specs.declared.stop.Refusal.{Refusal}
-use Rattle.plan_pack.specs.declared.stop.Stop.{Stop}
-use Rattle.plan_pack.specs.declared.stop.Stop.TheVariants.{OutOfMemory, Refused, WriteFault}
+use Rattle.plan_run.specs.declared.stop.Stop.{Stop}
+use Rattle.plan_run.specs.declared.stop.Stop.TheVariants.{OutOfMemory, Refused, WriteFault}
 use Rattle.plan_run.specs.Answers.{Answer, IsAnswerTo, IsLeftBy, reads_of, refused_with, where_wrong}
 use Rattle.plan_run.specs.Messages.{out_of_memory, write_fault}
+use Rattle.plan_run.specs.Stops.{is_starved, is_write}
 use Rattle.plan_run.specs.declared.request.Request.{Request}
 use Rattle.plan_run.specs.declared.status.Status.{Status}
 use Rattle.plan_run.specs.declared.status.Status.TheVariants.{Trouble}
@@ -19,6 +21,11 @@ use Rattle.plan_run.specs.declared.status.Status.TheVariants.{Trouble}
 abbrev pub is_write_fault : {T : Type 0} → Result T Stop → Bool
 is_write_fault (Ok _) = false
 is_write_fault (Err stop) = is_write stop
+
+-- a run stopped for want of memory
+abbrev pub runs_out : Result Status Stop → Bool
+runs_out (Ok _) = false
+runs_out (Err stop) = is_starved stop
 
 -- the message of a stop, or that there was no memory for it
 abbrev pub SaysStop : Stop → Bool → Option (List ℕ) → Option (List ℕ) → Type 0
@@ -62,17 +69,16 @@ Reports P (Err WriteFault) out_old out_new = IsPrefix P out_old out_new
 Reports P (Err OutOfMemory) out_old out_new = IsUnfinished P out_old out_new
 
 -- what is written and answered at a stop where an input is explained
-abbrev pub ReportsStop : Stop → Result Status Stop → Option (List ℕ) → Option (List ℕ) → Type 0
-ReportsStop (Refused refusal) r old new = Reports (λ a. a ≡ where_wrong refusal) r old new
-ReportsStop WriteFault r old new = ⊥
-ReportsStop OutOfMemory r old new = (r ≡ Err OutOfMemory) × Appends old new []
+abbrev pub ReportsStop : Halt → Result Status Stop → Option (List ℕ) → Option (List ℕ) → Type 0
+ReportsStop (Halted refusal) r old new = Reports (λ a. a ≡ where_wrong refusal) r old new
+ReportsStop Starving r old new = (r ≡ Err OutOfMemory) × Appends old new []
 
 -- ---- a run
 
 -- What a run answers and writes before any message. If it makes a file, the device shows what was written, and whether
 -- a write failed.
 pub record Answers {O : Type 0} (written : O → Option (List ℕ)) (has_failed : O → Bool) (r : Request) (s left : Sources) (result : Result Status Stop) (out_old out_new : Option (List ℕ)) : Type 0 where
-  pub asks : UnlessStarved result (IsLeftBy r s left) (reads_of r s) s left
+  pub asks : UnlessStarved (runs_out result) (IsLeftBy r s left) (reads_of r s) s left
   pub reports : Reports (IsAnswerTo written has_failed r s) result out_old out_new
 
 -- How a run ends: with its answer, or with a refusal that there was no memory to say; at a write to standard output that

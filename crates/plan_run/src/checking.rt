@@ -1,20 +1,20 @@
 //! Checking a certificate, and a plan of a plan file.
-ghost use Rattle.std.specs.Prelude.{◌≡◌, ◌||◌, ◌∷◌, [], IfOk, Some, string_bytes};
+ghost use Rattle.std.specs.Prelude.{◌≡◌, ◌||◌, ◌∷◌, [], IfOk, string_bytes};
 ghost use Rattle.byte_io.specs.Devices.{IfKnown};
-ghost use Rattle.byte_io.specs.Sources.{AreShort, Content, IsShort, Named, after, ask_of, coming_of, taken_by};
+ghost use Rattle.byte_io.specs.Sources.{AreShort, Named, after, ask_of, taken_by};
 ghost use Rattle.plan_pack.specs.Asking.{Asks};
-ghost use Rattle.plan_run.specs.Answers.{AnswersCheck, AnswersCheckPlan, IsCheckAnswer, IsPlanAnswerAt, IsVerdict, check_reads};
+ghost use Rattle.plan_run.specs.Answers.{AnswersCheck, AnswersCheckPlan, IsCheckAnswer, IsVerdict, check_reads};
 ghost use Rattle.plan_run.specs.Messages.{not_certified, optimal};
-ghost use Rattle.plan_run.specs.Running.{Reports, is_write_fault};
+ghost use Rattle.plan_run.specs.Running.{Reports, is_write_fault, runs_out};
 
 use crate::reporting::report;
 use crate::request::CheckRequest;
 use crate::status::Status;
-use byte_io::{ByteIn, ByteOut, Files};
+use crate::stop::Stop;
+use byte_io::{ByteOut, Files};
 use lit_base::LitList;
-use lit_cert::{Certificate, Fault, Reason, check, read_cert};
-use lit_plan::Compiled;
-use plan_pack::{Refusal, Stop, list_of, plans_of};
+use lit_cert::{Certificate, Reason, check};
+use plan_pack::{certificate_of, list_of, plan_at};
 use std::alloc::{AllocError, Global};
 
 /// Says whether a file's certificate shows that no grouping of a file's patterns is cheaper.
@@ -25,14 +25,14 @@ pub fn answer_check<'a, F: Files, W: ByteOut>(
     out: &mut W,
 ) -> Result<Status, Stop<'a>>
     ensures answer { IfKnown (F.sources files.old) (F.sources files.new) (λ s left. AreShort s
-        → Asks result (check_reads request.now.reading (string_bytes request.now.file) (string_bytes request.now.certificate) s) s left
+        → Asks (runs_out result) (check_reads request.now.reading (string_bytes request.now.file) (string_bytes request.now.certificate) s) s left
         × Reports (AnswersCheck request.now.reading (string_bytes request.now.file) (string_bytes request.now.certificate) s)
         result (W.written out.old) (W.written out.new)) }
     ensures flag { W.has_failed out.new ≡ (W.has_failed out.old || is_write_fault result) }
 {
     match list_of(alloc, request.reading, request.file.as_str(), files) {
         Ok(list) => check_list(alloc, &list, request.certificate.as_str(), files, out),
-        Err(stop) => Err(stop),
+        Err(stop) => Err(Stop::from(stop)),
     }
 }
 
@@ -49,30 +49,9 @@ fn check_list<'a, F: Files, W: ByteOut>(
         × Reports (IsCheckAnswer list.now name.now (taken_by (Named name.now) s)) result (W.written out.old) (W.written out.new)) }
     ensures flag { W.has_failed out.new ≡ (W.has_failed out.old || is_write_fault result) }
 {
-    match files.open_named(name) {
-        Ok(mut input) => judge(alloc, list, name, &mut input, out),
-        Err(_) => Err(Stop::Refused(Refusal::Unusable(name))),
-    }
-}
-
-/// Writes the verdict on the certificate of a file that is open.
-fn judge<'a, I: ByteIn, W: ByteOut>(
-    alloc: Global,
-    list: &LitList,
-    name: &'a str,
-    input: &mut I,
-    out: &mut W,
-) -> Result<Status, Stop<'a>>
-    ensures answer { (c : Content) → I.coming input.old ≡ Some (coming_of c) → IsShort c
-        → Reports (IsCheckAnswer list.now name.now (Some c)) result (W.written out.old) (W.written out.new) }
-    ensures flag { W.has_failed out.new ≡ (W.has_failed out.old || is_write_fault result) }
-{
-    match read_cert(alloc, input) {
+    match certificate_of(alloc, name, files) {
         Ok(certificate) => verdict(alloc, list, &certificate, out),
-        Err(Fault::BadCertText { line }) => Err(Stop::Refused(Refusal::NoCertificate { line })),
-        Err(Fault::OutOfMemory) => Err(Stop::OutOfMemory),
-        Err(Fault::ReadFault) => Err(Stop::Refused(Refusal::Unusable(name))),
-        Err(Fault::WriteFault) => unreachable!(),
+        Err(stop) => Err(Stop::from(stop)),
     }
 }
 
@@ -127,30 +106,12 @@ pub fn answer_check_plan<'a, F: Files, W: ByteOut>(
     out: &mut W,
 ) -> Result<Status, Stop<'a>>
     ensures answer { IfKnown (F.sources files.old) (F.sources files.new) (λ s left. AreShort s
-        → Asks result (ask_of file.now ∷ []) s left
+        → Asks (runs_out result) (ask_of file.now ∷ []) s left
         × Reports (AnswersCheckPlan file.now place s) result (W.written out.old) (W.written out.new)) }
     ensures flag { W.has_failed out.new ≡ (W.has_failed out.old || is_write_fault result) }
 {
-    match plans_of(alloc, file, files) {
-        Ok(plans) => check_plan(alloc, file, place, plans.as_slice(), out),
-        Err(stop) => Err(stop),
-    }
-}
-
-/// Writes the verdict on one of the plans of a file.
-fn check_plan<'a, W: ByteOut>(
-    alloc: Global,
-    file: &'a str,
-    place: usize,
-    plans: &[Compiled],
-    out: &mut W,
-) -> Result<Status, Stop<'a>>
-    ensures answer { Reports (IsPlanAnswerAt (λ p. IsVerdict p.literals p.certificate) file.now place plans.now) result
-        (W.written out.old) (W.written out.new) }
-    ensures flag { W.has_failed out.new ≡ (W.has_failed out.old || is_write_fault result) }
-{
-    match plans.get(place) {
-        Some(plan) => verdict(alloc, plan.list(), plan.certificate(), out),
-        None => Err(Stop::Refused(Refusal::NoPlan { file, place })),
+    match plan_at(alloc, file, place, files) {
+        Ok(plan) => verdict(alloc, plan.list(), plan.certificate(), out),
+        Err(stop) => Err(Stop::from(stop)),
     }
 }

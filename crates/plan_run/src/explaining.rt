@@ -1,24 +1,25 @@
 //! Explaining a plan: of a file's patterns, or of a plan file.
-ghost use Rattle.std.specs.Prelude.{◌≡◌, ◌||◌, ◌∷◌, [], ℕ, List, IfOk, Some, length, string_bytes};
+ghost use Rattle.std.specs.Prelude.{◌≡◌, ◌||◌, ◌∷◌, [], ℕ, List, IfOk, length, string_bytes};
 ghost use Rattle.byte_io.specs.Devices.{IfKnown};
-ghost use Rattle.byte_io.specs.Sources.{AreShort, Content, IsShort, Named, ask_of, coming_of};
+ghost use Rattle.byte_io.specs.Sources.{AreShort, Named, ask_of};
 ghost use Rattle.lit_base.specs.Cuts.{IsCut};
 ghost use Rattle.lit_base.specs.Profiles.{buckets};
 ghost use Rattle.plan_pack.specs.Asking.{Asks};
 ghost use Rattle.plan_pack.specs.Lists.{ArePlaces};
-ghost use Rattle.plan_run.specs.Answers.{AnswersExplain, AnswersExplainCertificate, AnswersExplainPlan, IsCertificateAnswer, IsCertificateReported, IsExplainAnswer, IsPlanAnswerAt, IsPlanExplained, explained, wrong_at_line};
+ghost use Rattle.plan_run.specs.Answers.{AnswersExplain, AnswersExplainCertificate, AnswersExplainPlan, IsCertificateReported, IsExplainAnswer, IsPlanExplained, explained};
 ghost use Rattle.plan_run.specs.Messages.{certificate_head};
-ghost use Rattle.plan_run.specs.Running.{Reports, is_write_fault};
+ghost use Rattle.plan_run.specs.Running.{Reports, is_write_fault, runs_out};
 
 use crate::flaws::{report_refusal, report_stop};
 use crate::reporting::{report, report_bytes};
 use crate::request::{ExplainRequest, View};
 use crate::status::Status;
-use byte_io::{ByteIn, ByteOut, Files};
+use crate::stop::Stop;
+use byte_io::{ByteOut, Files};
 use lit_base::{Ends, LitList, Profile};
-use lit_cert::{Certificate, read_cert};
+use lit_cert::Certificate;
 use lit_plan::Compiled;
-use plan_pack::{Refusal, Stop, placed_list_of, plans_of};
+use plan_pack::{Refusal, certificate_of, placed_list_of, plan_at};
 use plan_view::{plan_svg, plan_text};
 use run_planner::{Fault, plan};
 use std::alloc::{AllocError, Global};
@@ -31,7 +32,7 @@ pub fn answer_explain<'a, F: Files, W: ByteOut>(
     out: &mut W,
 ) -> Result<Status, Stop<'a>>
     ensures answer { IfKnown (F.sources files.old) (F.sources files.new) (λ s left. AreShort s
-        → Asks result (ask_of (string_bytes request.now.file) ∷ []) s left
+        → Asks (runs_out result) (ask_of (string_bytes request.now.file) ∷ []) s left
         × Reports (AnswersExplain request.now.reading request.now.profile request.now.view (string_bytes request.now.file) s)
         result (W.written out.old) (W.written out.new)) }
     ensures flag { W.has_failed out.new ≡ (W.has_failed out.old || is_write_fault result) }
@@ -96,32 +97,13 @@ pub fn answer_explain_plan<'a, F: Files, W: ByteOut>(
     out: &mut W,
 ) -> Result<Status, Stop<'a>>
     ensures answer { IfKnown (F.sources files.old) (F.sources files.new) (λ s left. AreShort s
-        → Asks result (ask_of file.now ∷ []) s left
+        → Asks (runs_out result) (ask_of file.now ∷ []) s left
         × Reports (AnswersExplainPlan view file.now place s) result (W.written out.old) (W.written out.new)) }
     ensures flag { W.has_failed out.new ≡ (W.has_failed out.old || is_write_fault result) }
 {
-    match plans_of(alloc, file, files) {
-        Ok(plans) => explain_one(alloc, view, file, place, plans.as_slice(), out),
+    match plan_at(alloc, file, place, files) {
+        Ok(plan) => explain_plan(alloc, view, &plan, out),
         Err(stop) => report_stop(alloc, stop, out),
-    }
-}
-
-/// Writes one of the plans of a file, as a text or a drawing.
-fn explain_one<'a, W: ByteOut>(
-    alloc: Global,
-    view: View,
-    file: &'a str,
-    place: usize,
-    plans: &[Compiled],
-    out: &mut W,
-) -> Result<Status, Stop<'a>>
-    ensures answer { Reports (IsPlanAnswerAt (IsPlanExplained view) file.now place plans.now) result
-        (W.written out.old) (W.written out.new) }
-    ensures flag { W.has_failed out.new ≡ (W.has_failed out.old || is_write_fault result) }
-{
-    match plans.get(place) {
-        Some(plan) => explain_plan(alloc, view, plan, out),
-        None => Err(Stop::Refused(Refusal::NoPlan { file, place })),
     }
 }
 
@@ -155,35 +137,13 @@ pub fn answer_explain_certificate<'a, F: Files, W: ByteOut>(
     out: &mut W,
 ) -> Result<Status, Stop<'a>>
     ensures answer { IfKnown (F.sources files.old) (F.sources files.new) (λ s left. AreShort s
-        → Asks result (Named name.now ∷ []) s left
+        → Asks (runs_out result) (Named name.now ∷ []) s left
         × Reports (AnswersExplainCertificate name.now s) result (W.written out.old) (W.written out.new)) }
     ensures flag { W.has_failed out.new ≡ (W.has_failed out.old || is_write_fault result) }
 {
-    match files.open_named(name) {
-        Ok(mut input) => explain_certificate(alloc, name, &mut input, out),
-        Err(_) => Err(Stop::Refused(Refusal::Unusable(name))),
-    }
-}
-
-/// Writes which line of a certificate that is open is wrong, or what it says.
-fn explain_certificate<'a, I: ByteIn, W: ByteOut>(
-    alloc: Global,
-    name: &'a str,
-    input: &mut I,
-    out: &mut W,
-) -> Result<Status, Stop<'a>>
-    ensures answer { (c : Content) → I.coming input.old ≡ Some (coming_of c) → IsShort c
-        → Reports (IsCertificateAnswer wrong_at_line IsCertificateReported name.now (Some c)) result (W.written out.old) (W.written out.new) }
-    ensures flag { W.has_failed out.new ≡ (W.has_failed out.old || is_write_fault result) }
-{
-    match read_cert(alloc, input) {
+    match certificate_of(alloc, name, files) {
         Ok(certificate) => report_head(alloc, &certificate, out),
-        Err(lit_cert::Fault::BadCertText { line }) => {
-            report_refusal(alloc, Refusal::NoCertificate { line }, out)
-        }
-        Err(lit_cert::Fault::OutOfMemory) => Err(Stop::OutOfMemory),
-        Err(lit_cert::Fault::ReadFault) => Err(Stop::Refused(Refusal::Unusable(name))),
-        Err(lit_cert::Fault::WriteFault) => unreachable!(),
+        Err(stop) => report_stop(alloc, stop, out),
     }
 }
 

@@ -1,7 +1,6 @@
 //! Reporting where an input is wrong, for `explain`.
-ghost use Rattle.std.specs.Prelude.{◌≡◌, ◌||◌, Err, IfOk, MatchResult, Ok, Some, false, string_bytes};
+ghost use Rattle.std.specs.Prelude.{◌≡◌, ◌||◌, Err, IfOk, MatchResult, Ok, Some, string_bytes};
 ghost use Rattle.std.specs.Option.{option_map};
-ghost use Rattle.plan_pack.specs.Stops.{is_write};
 ghost use Rattle.plan_run.specs.Answers.{where_wrong};
 ghost use Rattle.plan_run.specs.Messages.{wrong_byte, wrong_field, wrong_input, wrong_list};
 ghost use Rattle.plan_run.specs.Running.{Reports, ReportsStop, is_write_fault};
@@ -9,26 +8,25 @@ ghost use Rattle.plan_run.specs.Running.{Reports, ReportsStop, is_write_fault};
 use crate::checking::not_certified;
 use crate::reporting::report;
 use crate::status::Status;
+use crate::stop::Stop;
 use byte_io::ByteOut;
 use lit_base::Fault;
 use plan_file::Cause;
-use plan_pack::{Refusal, Stop};
+use plan_pack::Refusal;
 use std::alloc::{AllocError, Global};
 
 /// Writes where an input is wrong, for a stop that says so. Any other stop stays one.
 pub fn report_stop<'a, W: ByteOut>(
     alloc: Global,
-    stop: Stop<'a>,
+    stop: plan_pack::Stop<'a>,
     out: &mut W,
 ) -> Result<Status, Stop<'a>>
-    requires { is_write stop ≡ false }
     ensures answer { ReportsStop stop.entry result (W.written out.old) (W.written out.new) }
     ensures flag { W.has_failed out.new ≡ (W.has_failed out.old || is_write_fault result) }
 {
     match stop {
-        Stop::Refused(refusal) => report_refusal(alloc, refusal, out),
-        Stop::WriteFault => unreachable!(),
-        Stop::OutOfMemory => Err(Stop::OutOfMemory),
+        plan_pack::Stop::Refused(refusal) => report_refusal(alloc, refusal, out),
+        plan_pack::Stop::OutOfMemory => Err(Stop::OutOfMemory),
     }
 }
 

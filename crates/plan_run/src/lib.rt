@@ -13,13 +13,14 @@ mod reporting;
 mod request;
 mod running;
 mod scanning;
+mod spans;
 mod status;
+mod stop;
 mod workers;
 
 pub use message::say;
 pub use plan_pack::{
-    Fault, Notation, PatternFiles, Reading, Refusal, Stop, Unmade, hex_law, migrate, migrate_file,
-    pack,
+    Fault, Notation, PatternFiles, Reading, Refusal, Unmade, hex_law, migrate, migrate_file, pack,
 };
 pub use request::{
     CheckRequest, ExplainRequest, HitLine, Listing, PackRequest, PlanRequest, Request, ScanRequest,
@@ -27,4 +28,5 @@ pub use request::{
 };
 pub use running::{answer, run};
 pub use status::Status;
+pub use stop::Stop;
 pub use workers::Workers;

@@ -1,14 +1,14 @@
 //! Writing hits to standard output.
 ghost use Rattle.std.specs.Prelude.{◌≡◌, ◌++◌, ◌∷◌, ◌||◌, [], IfOk, OnOk, Some, decimal, string_bytes};
-ghost use Rattle.plan_run.specs.Listings.{hit_line, hit_lines, hits_text, line_of, literal_line};
+ghost use Rattle.plan_run.specs.Listings.{hit_line, hit_lines, line_of, literal_line};
 ghost use Rattle.plan_run.specs.Running.{Writes, is_write_fault};
 
-use crate::reporting::{report, report_bytes};
-use crate::request::{HitLine, Listing, ScanRequest};
+use crate::reporting::report_bytes;
+use crate::request::HitLine;
 use crate::status::Status;
+use crate::stop::Stop;
 use byte_io::{ByteOut, push_number};
 use lit_plan::Compiled;
-use plan_pack::Stop;
 use plan_view::push_literal;
 use std::alloc::{AllocError, Global};
 use text_ends::Hit;
@@ -16,35 +16,15 @@ use text_ends::Hit;
 /// How many hits are written at once.
 const HITS_AT_ONCE: usize = 2048;
 
-/// Writes hits of a plan as the request says: how many they are, or a line each.
-pub fn report_hits<'a, W: ByteOut>(
-    alloc: Global,
-    compiled: &Compiled,
-    scan: &ScanRequest,
-    hits: &[Hit],
-    out: &mut W,
-) -> Result<Status, Stop<'a>>
-    ensures text { Writes (hits_text scan.now.listing compiled.now.literals hits.now) Status.Done result (W.written out.old) (W.written out.new) }
-    ensures flag { W.has_failed out.new ≡ (W.has_failed out.old || is_write_fault result) }
-{
-    match scan.listing {
-        Listing::Count => {
-            let text = counted(alloc, hits.len())?;
-            report(text.as_str(), Status::Done, out)
-        }
-        Listing::Lines(line) => report_lines(alloc, compiled, line, hits, out),
-    }
-}
-
 /// How many hits there are, as it is written.
-fn counted(alloc: Global, count: usize) -> Result<String, AllocError>
+pub fn counted(alloc: Global, count: u64) -> Result<String, AllocError>
     ensures { IfOk result (λ text. string_bytes text ≡ decimal count ++ 10 ∷ []) }
 {
     format!(in alloc; "{count}\n")
 }
 
 /// Writes hits, a line each, as many at once as stand in one buffer.
-fn report_lines<'a, W: ByteOut>(
+pub fn report_lines<'a, W: ByteOut>(
     alloc: Global,
     compiled: &Compiled,
     line: HitLine,

@@ -3,8 +3,9 @@ ghost use Rattle.std.specs.Prelude.{◌≡◌, IfOk, string_bytes};
 ghost use Rattle.plan_pack.specs.Messages.{message_on, refused};
 ghost use Rattle.plan_run.specs.Running.{SaysStop};
 
+use crate::stop::Stop;
 use byte_io::{ByteOut, say_text};
-use plan_pack::{Refusal, Stop};
+use plan_pack::Refusal;
 use std::alloc::{AllocError, Global};
 
 /// Says why a run stopped. Where there is no memory for a message, that is said in its place. A message that cannot be

@@ -4,14 +4,15 @@ ghost use Rattle.byte_io.specs.Devices.{IfKnown};
 ghost use Rattle.byte_io.specs.Sources.{AreShort, ask_of};
 ghost use Rattle.plan_pack.specs.Asking.{Asks};
 ghost use Rattle.plan_run.specs.Answers.{AnswersPlan, IsPlanAnswer};
-ghost use Rattle.plan_run.specs.Running.{Reports, is_write_fault};
+ghost use Rattle.plan_run.specs.Running.{Reports, is_write_fault, runs_out};
 
 use crate::reporting::report_certificate;
 use crate::request::PlanRequest;
 use crate::status::Status;
+use crate::stop::Stop;
 use byte_io::{ByteOut, Files};
 use lit_base::{LitList, Profile};
-use plan_pack::{Refusal, Stop, list_of};
+use plan_pack::{Refusal, list_of};
 use run_planner::{Fault, plan};
 use std::alloc::Global;
 
@@ -23,13 +24,13 @@ pub fn answer_plan<'a, F: Files, W: ByteOut>(
     out: &mut W,
 ) -> Result<Status, Stop<'a>>
     ensures answer { IfKnown (F.sources files.old) (F.sources files.new) (λ s left. AreShort s
-        → Asks result (ask_of (string_bytes request.now.file) ∷ []) s left
+        → Asks (runs_out result) (ask_of (string_bytes request.now.file) ∷ []) s left
         × Reports (AnswersPlan request.now.reading request.now.profile (string_bytes request.now.file) s) result (W.written out.old) (W.written out.new)) }
     ensures flag { W.has_failed out.new ≡ (W.has_failed out.old || is_write_fault result) }
 {
     match list_of(alloc, request.reading, request.file.as_str(), files) {
         Ok(list) => plan_list(alloc, request.profile, &list, out),
-        Err(stop) => Err(stop),
+        Err(stop) => Err(Stop::from(stop)),
     }
 }
 

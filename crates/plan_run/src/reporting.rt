@@ -1,13 +1,13 @@
 //! Writing an answer to standard output.
 ghost use Rattle.std.specs.Prelude.{◌≡◌, ◌≢◌, ◌||◌, Err};
 ghost use Rattle.lit_cert.specs.Spelling.{IsShaped, spelling};
-ghost use Rattle.plan_pack.specs.declared.stop.Stop.TheVariants.{OutOfMemory};
+ghost use Rattle.plan_run.specs.declared.stop.Stop.TheVariants.{OutOfMemory};
 ghost use Rattle.plan_run.specs.Running.{Writes, is_write_fault};
 
 use crate::status::Status;
+use crate::stop::Stop;
 use byte_io::{ByteOut, Failed, write_all};
 use lit_cert::{Certificate, Fault, write_cert};
-use plan_pack::Stop;
 use std::alloc::Global;
 
 /// Writes a text, and returns this status. The only error is `WriteFault`.

@@ -12,8 +12,8 @@ use crate::planning::answer_plan;
 use crate::request::Request;
 use crate::scanning::answer_scan;
 use crate::status::Status;
+use crate::stop::Stop;
 use byte_io::{ByteOut, Files};
-use plan_pack::Stop;
 use std::alloc::Global;
 use std::thread::Threads;
 

@@ -18,4 +18,4 @@ returns-in-Ok-clause-named g c =
     c.in-Ok.ensures.takes c.in-Ok.ensures.gives c.list_from.ensures.named)
 
 pub returns-in-Ok-clause-starved : goal.returns-in-Ok-clause-starved
-returns-in-Ok-clause-starved g c = opened-before-memory _ c.in-Ok.input (g.F.Opener.sources c.args.files.now) c.args.file.now c.list_from.result c.in-Ok.ensures.gives
+returns-in-Ok-clause-starved g c = opened-before-memory _ c.in-Ok.input (g.F.Opener.sources c.args.files.now) (ask_of c.args.file.now) c.list_from.result c.in-Ok.ensures.gives

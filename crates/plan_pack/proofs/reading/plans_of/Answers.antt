@@ -18,4 +18,4 @@ returns-in-Err-clause-plans g c =
     missing _ c.in-Err.field-0 _ _ (ask_of c.args.file.now) (λ source. IsNoPlanFile c.args.file.now source (Unusable c.args.file)) c.in-Err.ensures.takes c.in-Err.ensures.gives (Unopened refl refl)
 
 pub returns-in-Ok-clause-starved : goal.returns-in-Ok-clause-starved
-returns-in-Ok-clause-starved g c = opened-before-memory _ c.in-Ok.input (g.F.Opener.sources c.args.files.now) c.args.file.now c.plans_from.result c.in-Ok.ensures.gives
+returns-in-Ok-clause-starved g c = opened-before-memory _ c.in-Ok.input (g.F.Opener.sources c.args.files.now) (ask_of c.args.file.now) c.plans_from.result c.in-Ok.ensures.gives

@@ -11,4 +11,4 @@ returns-in-Ok-clause-text g c =
     c.in-Ok.ensures.takes c.in-Ok.ensures.gives c.text_from.ensures.text
 
 pub returns-in-Ok-clause-starved : goal.returns-in-Ok-clause-starved
-returns-in-Ok-clause-starved g c = opened-before-memory _ c.in-Ok.input (g.F.Opener.sources c.args.files.now) c.args.operand.now c.text_from.result c.in-Ok.ensures.gives
+returns-in-Ok-clause-starved g c = opened-before-memory _ c.in-Ok.input (g.F.Opener.sources c.args.files.now) (ask_of c.args.operand.now) c.text_from.result c.in-Ok.ensures.gives

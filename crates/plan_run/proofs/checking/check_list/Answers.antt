@@ -1,11 +1,15 @@
--- Facts on the content that was read hold of the files' known source.
+-- The certificate is judged, or there is none.
 use Rattle.byte_io.specs.Sources.{Named}
-use Rattle.byte_io.proofs.OpenerLemmas.{opened}
-use Rattle.plan_run.specs.Answers.{IsCheckAnswer}
-use Rattle.plan_run.specs.Running.{Reports}
+use Rattle.plan_pack.specs.Certificates.{IsCertificateIn, IsNoCertificate}
+use Rattle.plan_run.specs.Answers.{IsVerdict, refuses}
+use Rattle.plan_run.proofs.AnswerLemmas.{taken-had, taken-stopped}
 use Rattle.plan_run.proofs.checking.check_list.Goals as goal
 
 pub returns-in-Ok-clause-answer : goal.returns-in-Ok-clause-answer
 returns-in-Ok-clause-answer g c =
-    opened _ c.in-Ok.input _ _ (Named c.args.name.now) (λ source. Reports (IsCheckAnswer c.args.list.now c.args.name.now source) c.judge.result (g.W.ByteOut.written c.args.out.now) (g.W.ByteOut.written c.judge.new.out))
-    c.in-Ok.ensures.takes c.in-Ok.ensures.gives c.judge.ensures.answer
+    taken-had IsCertificateIn (IsNoCertificate c.args.name.now) refuses (IsVerdict c.args.list.now) (Named c.args.name.now) _ _ c.in-Ok.certificate c.verdict.result _ _
+    c.in-Ok.ensures.certificate c.verdict.ensures.answer
+
+pub returns-in-Err-clause-answer : goal.returns-in-Err-clause-answer
+returns-in-Err-clause-answer g c =
+    rw c.from.ensures.value (taken-stopped IsCertificateIn (IsNoCertificate c.args.name.now) (IsVerdict c.args.list.now) (Named c.args.name.now) _ _ c.in-Err.stop (g.W.ByteOut.written c.args.out.now) c.in-Err.ensures.certificate)

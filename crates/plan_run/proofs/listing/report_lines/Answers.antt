@@ -1,7 +1,7 @@
 -- The lines of a part follow those before it.
 use Rattle.std.proofs.Common.{◌≡◌, ◌<◌, ◌++◌, length, Err, ap, ◌∙◌, sym, append_assoc, rules}
 use Rattle.std.proofs.lemmas.Result.{err_from_is_err_and}
-use Rattle.plan_pack.specs.declared.stop.Stop.TheVariants.{OutOfMemory}
+use Rattle.plan_run.specs.declared.stop.Stop.TheVariants.{OutOfMemory}
 use Rattle.plan_run.specs.Listings.{hit_lines}
 use Rattle.plan_run.specs.declared.status.Status.TheVariants.{Done}
 use Rattle.plan_run.proofs.ListingLemmas.{starved-more, stopped-more, wrote-more}

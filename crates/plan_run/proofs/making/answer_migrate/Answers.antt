@@ -9,4 +9,4 @@ returns-in-Ok-clause-answer g c =
 
 pub returns-in-Err-clause-answer : goal.returns-in-Err-clause-answer
 returns-in-Err-clause-answer g c =
-    migrate-unwritten g.F.Output.ByteOut.written g.F.Output.ByteOut.has_failed c.args.input.now c.args.output.now _ _ c.in-Err.unmade c.stop_of.result _ c.stop_of.ensures c.in-Err.ensures.broken c.in-Err.ensures.migrated
+    rw c.from.ensures.value (migrate-unwritten g.F.Output.ByteOut.written g.F.Output.ByteOut.has_failed c.args.input.now c.args.output.now _ _ c.in-Err.unmade c.stop_of.result _ c.stop_of.ensures c.in-Err.ensures.broken c.in-Err.ensures.migrated)

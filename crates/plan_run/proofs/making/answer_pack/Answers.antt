@@ -6,6 +6,7 @@ use Rattle.byte_io.specs.Devices.{IfKnown}
 use Rattle.byte_io.specs.Sources.{AreShort}
 use Rattle.plan_pack.specs.Asking.{AsksAfterReads, pack_asks, pack_reads}
 use Rattle.plan_pack.specs.Packing.{PacksFiles}
+use Rattle.plan_pack.specs.Stops.{is_starved}
 use Rattle.plan_pack.specs.declared.stop.Stop.{Stop}
 use Rattle.plan_run.proofs.PackLemmas.{pack-printed, pack-unwritten}
 use Rattle.plan_run.proofs.making.answer_pack.Goals as goal
@@ -19,9 +20,6 @@ returns-in-Ok-clause-answer g c =
 abbrev cut : {O : Type 0} → Stop × Option O → Result O (Stop × Option O)
 cut stopped = Err stopped
 
-abbrev stopped_with : {O : Type 0} → Stop × Option O → Result O Stop
-stopped_with stopped = Err stopped.0
-
 pub returns-clause-answer : goal.returns-clause-answer
 returns-clause-answer g c =
     let known = g.F.Opener.sources c.args.files.now in
@@ -31,6 +29,6 @@ returns-clause-answer g c =
     let written = g.F.Output.ByteOut.written in
     let stopped = c.in-Err.unmade in
     let output = string_bytes c.args.request.now.output in
-    let named = subst (λ (to : List ℕ). IfKnown known left (λ s l. AreShort s → AsksAfterReads (stopped_with stopped) (pack_asks reading (map string_bytes c.names-names.result.now) to s) (pack_reads reading (map string_bytes c.names-names.result.now) to s) s l × PacksFiles written reading profile (map string_bytes c.names-names.result.now) to s l (cut stopped))) c.as_str-output.ensures.value c.in-Err.ensures.packed in
-    pack-unwritten written g.F.Output.ByteOut.has_failed reading profile (map string_bytes c.args.request.now.files.names.items) output known left stopped c.stop_of.result c.stop_of.ensures c.in-Err.ensures.broken
-    (subst (λ (from : List (String Global)). IfKnown known left (λ s l. AreShort s → AsksAfterReads (stopped_with stopped) (pack_asks reading (map string_bytes from) output s) (pack_reads reading (map string_bytes from) output s) s l × PacksFiles written reading profile (map string_bytes from) output s l (cut stopped))) c.names-names.ensures.value named)
+    let named = subst (λ (to : List ℕ). IfKnown known left (λ s l. AreShort s → AsksAfterReads (is_starved stopped.0) (pack_asks reading (map string_bytes c.names-names.result.now) to s) (pack_reads reading (map string_bytes c.names-names.result.now) to s) s l × PacksFiles written reading profile (map string_bytes c.names-names.result.now) to s l (cut stopped))) c.as_str-output.ensures.value c.in-Err.ensures.packed in
+    rw c.from.ensures.value (pack-unwritten written g.F.Output.ByteOut.has_failed reading profile (map string_bytes c.args.request.now.files.names.items) output known left stopped c.stop_of.result c.stop_of.ensures c.in-Err.ensures.broken
+    (subst (λ (from : List (String Global)). IfKnown known left (λ s l. AreShort s → AsksAfterReads (is_starved stopped.0) (pack_asks reading (map string_bytes from) output s) (pack_reads reading (map string_bytes from) output s) s l × PacksFiles written reading profile (map string_bytes from) output s l (cut stopped))) c.names-names.ensures.value named))

@@ -24,5 +24,5 @@ returns-in-Err-clause-answer g c =
     let left = g.F.Opener.sources c.list_of.new.files in
     let reading = c.args.request.now.reading in
     let stop = c.in-Err.stop in
-    plan-stopped reading c.args.request.now.profile (string_bytes c.args.request.now.file) known left stop (g.W.ByteOut.written c.args.out.now)
-    (subst (λ (name : List ℕ). IfKnown known left (λ s l. AreShort s → (l ≡ after (ask_of name) s) × TakesList reading name (taken_by (ask_of name) s) (stopped stop))) c.as_str.ensures.value c.in-Err.ensures.list)
+    rw c.from.ensures.value (plan-stopped reading c.args.request.now.profile (string_bytes c.args.request.now.file) known left stop (g.W.ByteOut.written c.args.out.now)
+    (subst (λ (name : List ℕ). IfKnown known left (λ s l. AreShort s → (l ≡ after (ask_of name) s) × TakesList reading name (taken_by (ask_of name) s) (stopped stop))) c.as_str.ensures.value c.in-Err.ensures.list))

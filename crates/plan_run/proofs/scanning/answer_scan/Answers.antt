@@ -26,5 +26,5 @@ returns-in-Err-clause-answer g c =
     let left = g.F.Opener.sources c.plan_of.new.files in
     let reading = c.args.scan.now.reading in
     let stop = c.in-Err.stop in
-    scan-stopped reading c.args.scan.now.listing (string_bytes c.args.scan.now.file) (string_bytes c.args.scan.now.input) known left stop (g.W.ByteOut.written c.args.out.now)
-    (subst (λ (name : List ℕ). IfKnown known left (λ s l. AreShort s → (l ≡ after (ask_of name) s) × TakesPlan reading Eight name (taken_by (ask_of name) s) (stopped stop))) c.as_str.ensures.value c.in-Err.ensures.plan)
+    rw c.from.ensures.value (scan-stopped reading c.args.scan.now.listing (string_bytes c.args.scan.now.file) (string_bytes c.args.scan.now.input) known left stop (g.W.ByteOut.written c.args.out.now)
+    (subst (λ (name : List ℕ). IfKnown known left (λ s l. AreShort s → (l ≡ after (ask_of name) s) × TakesPlan reading Eight name (taken_by (ask_of name) s) (stopped stop))) c.as_str.ensures.value c.in-Err.ensures.plan))

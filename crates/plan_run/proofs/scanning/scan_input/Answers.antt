@@ -23,5 +23,5 @@ returns-in-Err-clause-answer g c =
     let known = g.F.Opener.sources c.args.files.now in
     let left = g.F.Opener.sources c.text_of.new.files in
     let stop = c.in-Err.stop in
-    input-stopped c.args.compiled.now.literals c.args.scan.now.listing (string_bytes c.args.scan.now.input) known left stop (g.W.ByteOut.written c.args.out.now)
-    (subst (λ (name : List ℕ). IfKnown known left (λ s l. AreShort s → (l ≡ after (ask_of name) s) × TakesText name (taken_by (ask_of name) s) (stopped stop))) c.as_str.ensures.value c.in-Err.ensures.text)
+    rw c.from.ensures.value (input-stopped c.args.compiled.now.literals c.args.scan.now.listing (string_bytes c.args.scan.now.input) known left stop (g.W.ByteOut.written c.args.out.now)
+    (subst (λ (name : List ℕ). IfKnown known left (λ s l. AreShort s → (l ≡ after (ask_of name) s) × TakesText name (taken_by (ask_of name) s) (stopped stop))) c.as_str.ensures.value c.in-Err.ensures.text))
