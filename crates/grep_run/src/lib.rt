@@ -16,7 +16,6 @@ mod status;
 mod tuning;
 
 pub use byte_io::{Missing, Opener};
-pub use message::{say_out_of_memory, write_whole};
 pub use options::GrepOptions;
 pub use running::{answer, run};
 pub use status::{Status, Stop};

@@ -51,7 +51,7 @@ fn refused_text(alloc: Global, fault: Fault) -> Result<String, AllocError>
 
 /// Says that memory ran out. It takes none itself. The only error is `WriteFault`; a prefix of the message may be
 /// written then.
-pub fn say_out_of_memory<E: ByteOut>(err: &mut E) -> Result<(), Stop>
+pub(crate) fn say_out_of_memory<E: ByteOut>(err: &mut E) -> Result<(), Stop>
     ensures ok { OnOk result (Writes (writer E.written E.has_failed err.old) (writer E.written E.has_failed err.new) out_of_memory) }
     ensures err { OnErr result (WritesPrefix (writer E.written E.has_failed err.old) (writer E.written E.has_failed err.new) out_of_memory) }
     ensures fault { OnErr result (result ≡ Err Stop.WriteFault) }
@@ -61,7 +61,7 @@ pub fn say_out_of_memory<E: ByteOut>(err: &mut E) -> Result<(), Stop>
 }
 
 /// Writes the whole text. The only error is `WriteFault`; a prefix of the text may be written then.
-pub fn write_whole<W: ByteOut>(text: &[u8], out: &mut W) -> Result<(), Stop>
+pub(crate) fn write_whole<W: ByteOut>(text: &[u8], out: &mut W) -> Result<(), Stop>
     ensures ok { OnOk result (Writes (writer W.written W.has_failed out.old) (writer W.written W.has_failed out.new) text.now) }
     ensures err { OnErr result (WritesPrefix (writer W.written W.has_failed out.old) (writer W.written W.has_failed out.new) text.now) }
     ensures fault { OnErr result (result ≡ Err Stop.WriteFault) }

@@ -1,16 +1,15 @@
 //! What a command does.
-ghost use Rattle.std.specs.Prelude.{◌≡◌, ◌≢◌, ◌||◌, OnErr, OnOk};
-ghost use Rattle.byte_io.specs.Transfers.{Says};
+ghost use Rattle.std.specs.Prelude.{◌≡◌, ◌≢◌, ◌||◌};
+ghost use Rattle.byte_io.specs.Transfers.{SaysOrFails};
 ghost use Rattle.grep_run.specs.Messages.{out_of_memory};
-ghost use Rattle.grep_run.specs.Writers.{Writes, WritesPrefix, is_write_fault, writer};
 ghost use Rattle.program_words.specs.Words.{message_on};
 
 use crate::operand_files::OperandFiles;
 use crate::request::{Request, read_request};
 use crate::standard_input::StandardInput;
 use byte_io::{ByteOut, SystemFiles};
-use grep_run::{GrepOptions, Status, Stop, run, say_out_of_memory, write_whole};
-use program_words::Fault;
+use grep_run::{GrepOptions, Status, run};
+use program_words::{Fault, say_fault};
 use std::io::Read;
 use std::rt::{Env, Files};
 
@@ -54,22 +53,9 @@ fn files_for<'a, R: Files, S: Read + Copy + Drop>(
 /// Writes the message on words that are refused. Where that cannot be written, only the status shows it.
 fn refuse<E: ByteOut>(fault: &Fault, err: &mut E) -> Status
     ensures status { result ≡ Status.Trouble }
-    ensures said { Says (E.has_failed err.new) (E.written err.old) (E.written err.new) (message_on out_of_memory fault.now) }
+    ensures said { SaysOrFails (E.has_failed err.old) (E.has_failed err.new)
+        (E.written err.old) (E.written err.new) (message_on out_of_memory fault.now) }
 {
-    let _ = say_fault(fault, err);
+    say_fault(fault, "litgrep: out of memory\n", err);
     Status::Trouble
-}
-
-/// Writes the message on words that are refused. The only error is `WriteFault`; a prefix of the message may be written
-/// then.
-fn say_fault<E: ByteOut>(fault: &Fault, err: &mut E) -> Result<(), Stop>
-    ensures ok { OnOk result (Writes (writer E.written E.has_failed err.old) (writer E.written E.has_failed err.new) (message_on out_of_memory fault.now)) }
-    ensures err { OnErr result (WritesPrefix (writer E.written E.has_failed err.old) (writer E.written E.has_failed err.new) (message_on out_of_memory fault.now)) }
-    ensures fault { OnErr result (result ≡ Err Stop.WriteFault) }
-    ensures flag { E.has_failed err.new ≡ (E.has_failed err.old || is_write_fault result) }
-{
-    match fault {
-        Fault::Usage { text } => write_whole(text.as_bytes(), err),
-        Fault::OutOfMemory => say_out_of_memory(err),
-    }
 }

@@ -2,15 +2,15 @@
 ghost use Rattle.std.specs.Prelude.{◌≡◌, ◌≢◌, ◌||◌};
 ghost use Rattle.byte_io.specs.Devices.{IfKnown};
 ghost use Rattle.byte_io.specs.Sources.{AreShort};
-ghost use Rattle.byte_io.specs.Transfers.{Says};
+ghost use Rattle.byte_io.specs.Transfers.{Says, SaysOrFails};
 ghost use Rattle.litplan.specs.Commands.{EndsSomehow};
 ghost use Rattle.plan_run.specs.Messages.{out_of_memory};
 ghost use Rattle.program_words.specs.Words.{message_on};
 
-use crate::words::requested;
-use byte_io::{ByteOut, Files, say_text};
-use plan_run::{Status, Stop, run, say};
-use program_words::{Fault, words};
+use crate::requests::requested;
+use byte_io::{ByteOut, Files};
+use plan_run::{Status, run};
+use program_words::{Fault, say_fault, words};
 use std::alloc::Global;
 use std::rt::Env;
 use std::thread::Threads;
@@ -33,7 +33,7 @@ pub fn serve<R: Env + Threads + Sync + AllocGlobal, F: Files, W: ByteOut, E: Byt
 {
     match words(rt, "litplan") {
         Ok(words) => command(rt, rt.alloc(), &words, files, out, err),
-        Err(fault) => refuse(rt.alloc(), &fault, err),
+        Err(fault) => refuse(&fault, err),
     }
 }
 
@@ -57,25 +57,17 @@ pub fn command<R: Threads + Sync, F: Files, W: ByteOut, E: ByteOut>(
 {
     match requested(alloc, words) {
         Ok(request) => run(rt, alloc, &request, files, out, err),
-        Err(fault) => refuse(alloc, &fault, err),
+        Err(fault) => refuse(&fault, err),
     }
 }
 
 /// Writes the message on words that are refused. Where that cannot be written, only the status shows it.
-fn refuse<E: ByteOut>(alloc: Global, fault: &Fault, err: &mut E) -> Status
+fn refuse<E: ByteOut>(fault: &Fault, err: &mut E) -> Status
     ensures status { result ≡ Status.Trouble }
     ensures said { Says (E.has_failed err.new) (E.written err.old) (E.written err.new) (message_on out_of_memory fault.now) }
+    ensures exact { SaysOrFails (E.has_failed err.old) (E.has_failed err.new)
+        (E.written err.old) (E.written err.new) (message_on out_of_memory fault.now) }
 {
-    say_fault(alloc, fault, err);
+    say_fault(fault, "litplan: refused (1)\n", err);
     Status::Trouble
-}
-
-/// Writes the message on words that are refused. If a write fails, a prefix of it may be written.
-fn say_fault<E: ByteOut>(alloc: Global, fault: &Fault, err: &mut E)
-    ensures { Says (E.has_failed err.new) (E.written err.old) (E.written err.new) (message_on out_of_memory fault.now) }
-{
-    match fault {
-        Fault::Usage { text } => say_text(text.as_str(), err),
-        Fault::OutOfMemory => say(alloc, Stop::OutOfMemory, err),
-    }
 }

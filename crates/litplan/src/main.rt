@@ -3,8 +3,9 @@
 #![tactic(auto)]
 
 mod command;
+mod commands;
 mod help;
-mod words;
+mod requests;
 
 use byte_io::{SystemFiles, ToWrite};
 use command::serve;

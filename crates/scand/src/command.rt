@@ -1,15 +1,15 @@
 //! What a command does.
 ghost use Rattle.std.specs.Prelude.{◌≡◌, ◌||◌, IfOk, string_bytes};
-ghost use Rattle.byte_io.specs.Transfers.{Says};
+ghost use Rattle.byte_io.specs.Transfers.{Says, SaysOrFails};
 ghost use Rattle.program_words.specs.Words.{message_on};
 ghost use Rattle.scan_run.specs.Alone.{MayHaveFailed};
 ghost use Rattle.scan_run.specs.Messages.{out_of_memory};
 ghost use Rattle.scand.specs.Commands.{EndsSomehow, Runs, Serves, ServesPort, cannot_listen};
 
 use crate::words::{Request, Service, requested};
-use byte_io::{ByteIn, ByteOut, Failed, Opener, say_text};
+use byte_io::{ByteIn, ByteOut, Failed, Opener};
 use plan_store::PlanStore;
-use program_words::{Fault, words};
+use program_words::{Fault, say_fault, words};
 use scan_run::{Connections, LoadedStore, Status, listen, load_files, say_port, serve_alone};
 use std::alloc::{AllocError, Global};
 use std::net::{Ipv4Addr, Net, TcpListener, TcpStream};
@@ -172,18 +172,9 @@ fn cannot_listen(alloc: Global, port: u16) -> Result<String, AllocError>
 fn refuse<E: ByteOut>(fault: &Fault, err: &mut E) -> Status
     ensures status { result ≡ Status.Trouble }
     ensures said { Says (E.has_failed err.new) (E.written err.old) (E.written err.new) (message_on out_of_memory fault.now) }
+    ensures exact { SaysOrFails (E.has_failed err.old) (E.has_failed err.new)
+        (E.written err.old) (E.written err.new) (message_on out_of_memory fault.now) }
 {
-    say_fault(fault, err);
+    say_fault(fault, "scand: out of memory\n", err);
     Status::Trouble
-}
-
-/// Writes the message on a fault: words that are refused, a port that cannot be listened on, or want of memory. If a
-/// write fails, a prefix of it may be written.
-fn say_fault<E: ByteOut>(fault: &Fault, err: &mut E)
-    ensures { Says (E.has_failed err.new) (E.written err.old) (E.written err.new) (message_on out_of_memory fault.now) }
-{
-    match fault {
-        Fault::Usage { text } => say_text(text.as_str(), err),
-        Fault::OutOfMemory => say_text("scand: out of memory\n", err),
-    }
 }
