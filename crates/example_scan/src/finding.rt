@@ -2,7 +2,7 @@
 use crate::printing::push_hits;
 use anyhow::{Result, bail};
 use byte_io::{ByteIn, ByteOut, write_all};
-use flow_scan::{Compiled, Fault, Hit, Scanner};
+use flow_scan::{Compiled, Scanner};
 use std::alloc::Global;
 
 /// Feeds the input to a scan by the plan, to its end, and writes the lines of the hits. The buffer takes one read; the
@@ -16,6 +16,8 @@ pub fn find<I: ByteIn, O: ByteOut>(
     input: &mut I,
     out: &mut O,
 ) -> Result<()> {
+    let mut hits = Vec::new(alloc);
+    let mut text = Vec::new(alloc);
     for _ in 0..u64::MAX {
         let Ok(count) = input.read_some(buffer) else {
             bail!("a read failed");
@@ -23,31 +25,13 @@ pub fn find<I: ByteIn, O: ByteOut>(
         if count == 0 {
             break;
         }
-        let hits = hits_in(alloc, scanner, &buffer[..count])?;
-        write_hits(alloc, plan, lines, &hits, out)?;
-    }
-    Ok(())
-}
-
-/// The hits that end in the next piece.
-fn hits_in(alloc: Global, scanner: &mut Scanner<'_>, piece: &[u8]) -> Result<Vec<Hit>, Fault> {
-    let mut hits = Vec::new(alloc);
-    scanner.feed(piece, &mut hits)?;
-    Ok(hits)
-}
-
-/// Writes the lines of hits.
-fn write_hits<O: ByteOut>(
-    alloc: Global,
-    plan: &Compiled,
-    lines: &[u64],
-    hits: &[Hit],
-    out: &mut O,
-) -> Result<()> {
-    let mut text = Vec::new(alloc);
-    push_hits(plan, lines, hits, &mut text)?;
-    if write_all(out, &text).is_err() {
-        bail!("a write failed");
+        hits.clear();
+        scanner.feed(&buffer[..count], &mut hits)?;
+        text.clear();
+        push_hits(plan, lines, &hits, &mut text)?;
+        if write_all(out, &text).is_err() {
+            bail!("a write failed");
+        }
     }
     Ok(())
 }

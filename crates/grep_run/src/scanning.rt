@@ -1,5 +1,5 @@
 //! The lines of one input, from its first byte to its end, its fault, or the last line that is wanted.
-ghost use Rattle.std.specs.Prelude.{◌≡◌, ℕ, ◌<◌, ◌||◌, Bool, List, [], IfOk, IfSome, Some, false, is_some, length, true};
+ghost use Rattle.std.specs.Prelude.{◌≡◌, ℕ, ◌<◌, ◌||◌, Bool, List, [], IfOk, IfSome, Ok, Some, false, is_some, length, true};
 ghost use Rattle.byte_io.specs.Sources.{Content, IsShort, coming_of};
 ghost use Rattle.grep_run.specs.Growing.{are_shown};
 ghost use Rattle.grep_run.specs.Requests.{test_of};
@@ -125,6 +125,9 @@ pub fn read_lines<'a, I: ByteIn, W: ByteOut>(
         → ReadsLines o test name c result block.new before (writer W.written W.has_failed out.new) }
     ensures plan { picker.new.plan ≡ picker.old.plan }
     ensures flag { W.has_failed out.new ≡ (W.has_failed out.old || is_write_fault result) }
+
+    // A read that failed is not tried again, whatever is known of the input.
+    ensures unread { result ≡ Ok End.Clean → I.has_failed input.new ≡ I.has_failed input.old }
 {
     for turn in 0..MAX_TURNS {
         match input.read_some(piece) {

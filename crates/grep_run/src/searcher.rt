@@ -173,6 +173,9 @@ impl<'a> Searcher<'a> {
         ensures same { self.new.request ≡ self.old.request }
         ensures flag { (W.has_failed out.new || E.has_failed err.new)
             ≡ (W.has_failed out.old || E.has_failed err.old || is_write_fault result) }
+
+        // A read that failed is found, whatever is known of the input.
+        ensures unread { IfOk result (λ found. found.is_error ≡ false → I.has_failed input.new ≡ I.has_failed input.old) }
     {
         self.block.begin(self.request.options, name);
         let mut picker = picker_for(&self.request, self.finder.take());

@@ -34,21 +34,21 @@ IsStatusOf endings status =
 
 -- All lines are written, and then a fault of accepting, where there was one. Or a write of the lines failed; or there
 -- was no memory for them, though there are some.
-pub data Reports (endings : List (Option Ended)) (faulty : Bool) (status : Status) (out_failed err_had_failed err_failed : Bool) (out_old out_new err_old err_new : Option (List ℕ)) : Type 0 where
-  Written : faulty ≡ false → IsStatusOf endings status → Appends out_old out_new (lines_from 1 endings) → Appends err_old err_new []
-      → Reports endings faulty status out_failed err_had_failed err_failed out_old out_new err_old err_new
-  Faulty : faulty ≡ true → status ≡ Trouble → Appends out_old out_new (lines_from 1 endings) → SaysOrFails err_had_failed err_failed err_old err_new accept_fault
-      → Reports endings faulty status out_failed err_had_failed err_failed out_old out_new err_old err_new
+pub data Reports (endings : List (Option Ended)) (accept_failed : Bool) (status : Status) (out_failed err_had_failed err_failed : Bool) (out_old out_new err_old err_new : Option (List ℕ)) : Type 0 where
+  Written : accept_failed ≡ false → IsStatusOf endings status → Appends out_old out_new (lines_from 1 endings) → Appends err_old err_new []
+      → Reports endings accept_failed status out_failed err_had_failed err_failed out_old out_new err_old err_new
+  Faulty : accept_failed ≡ true → status ≡ Trouble → Appends out_old out_new (lines_from 1 endings) → SaysOrFails err_had_failed err_failed err_old err_new accept_fault
+      → Reports endings accept_failed status out_failed err_had_failed err_failed out_old out_new err_old err_new
   Broken : out_failed ≡ true → status ≡ Trouble → AppendsPart out_old out_new (lines_from 1 endings) → Appends err_old err_new []
-      → Reports endings faulty status out_failed err_had_failed err_failed out_old out_new err_old err_new
+      → Reports endings accept_failed status out_failed err_had_failed err_failed out_old out_new err_old err_new
   Starved : 0 < length endings → status ≡ Trouble → Appends out_old out_new [] → SaysOrFails err_had_failed err_failed err_old err_new out_of_memory
-      → Reports endings faulty status out_failed err_had_failed err_failed out_old out_new err_old err_new
+      → Reports endings accept_failed status out_failed err_had_failed err_failed out_old out_new err_old err_new
 
 -- The ends of connections were reported: as many as were asked for, or at most as many where accepting failed. That they
 -- are the ends of the connections that were served is by reading.
 pub record ReportsSome (connections : ℕ) (status : Status) (out_failed err_had_failed err_failed : Bool) (out_old out_new err_old err_new : Option (List ℕ)) : Type 0 where
   pub endings : List (Option Ended)
-  pub faulty : Bool
+  pub accept_failed : Bool
   pub few : length endings ≤ connections
-  pub all : faulty ≡ false → length endings ≡ connections
-  pub reported : Reports endings faulty status out_failed err_had_failed err_failed out_old out_new err_old err_new
+  pub all : accept_failed ≡ false → length endings ≡ connections
+  pub reported : Reports endings accept_failed status out_failed err_had_failed err_failed out_old out_new err_old err_new

@@ -10,6 +10,7 @@ mod listening;
 mod loaded_store;
 mod loading;
 mod loading_files;
+mod message;
 mod port;
 mod report;
 mod sending;

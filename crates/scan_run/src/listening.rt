@@ -42,7 +42,7 @@ pub fn listen<R: Threads + Wait + Sync, O: ByteOut, E: ByteOut>(
 {
     let LoadedStore { store, tickets } = loaded;
     let served = serve_all(rt, alloc, store, tickets, listener, connections.count());
-    report(alloc, &served.endings, served.faulty, out, err)
+    report(alloc, &served.endings, served.accept_failed, out, err)
 }
 
 /// How the connections of a run ended.
@@ -51,11 +51,19 @@ struct Outcome {
     /// How each ended, in order of acceptance; `None` where no thread could be started.
     endings: ArrayVec<Option<Ended>, MAX_CONNECTIONS>,
     /// Whether accepting failed before all had come.
-    faulty: bool,
+    accept_failed: bool,
 }
 
 /// The threads that serve connections, in order of acceptance; `None` where none could be started.
 type ServingThreads = ArrayVec<Option<JoinHandle<Ended>>, MAX_CONNECTIONS>;
+
+/// The connections that were accepted.
+#[derive(Drop)]
+struct Arrivals {
+    threads: ServingThreads,
+    /// Whether accepting failed before all had come.
+    accept_failed: bool,
+}
 
 /// Serves the connections to their ends. It takes the parts of a `LoadedStore`, since nothing would be known of the
 /// result of a closure that captures one.
@@ -70,7 +78,7 @@ fn serve_all<R: Threads + Wait + Sync>(
     requires some { AreConnections connections }
     requires here { All (IsOf store.now) tickets.now }
     ensures few { length result.endings.items ≤ connections }
-    ensures all { result.faulty ≡ false → length result.endings.items ≡ connections }
+    ensures all { result.accept_failed ≡ false → length result.endings.items ≡ connections }
 {
     thread::scope(
         thread::scope_env(),
@@ -78,24 +86,19 @@ fn serve_all<R: Threads + Wait + Sync>(
         |scope|
             requires { AreConnections connections × All (IsOf store.now) tickets.now }
         {
-            let (threads, faulty) = accept_all(
-                scope,
-                rt,
-                alloc,
-                store,
-                tickets,
-                listener,
-                connections,
-            );
+            let Arrivals {
+                threads,
+                accept_failed,
+            } = accept_all(scope, rt, alloc, store, tickets, listener, connections);
             Outcome {
                 endings: join_all(rt, threads),
-                faulty,
+                accept_failed,
             }
         },
     )
 }
 
-/// Accepts the connections, starts a thread for each, and closes the listener. Returns whether accepting failed.
+/// Accepts the connections, starts a thread for each, and closes the listener.
 fn accept_all<'s, E, R: Threads + Wait + Sync>(
     scope: &'s Scope<'s, E>,
     rt: &'s R,
@@ -104,16 +107,19 @@ fn accept_all<'s, E, R: Threads + Wait + Sync>(
     tickets: &'s [Ticket],
     listener: TcpListener,
     connections: usize,
-) -> (ServingThreads, bool)
+) -> Arrivals
     requires some { AreConnections connections }
     requires here { All (IsOf store.now) tickets.now }
-    ensures few { length result.0.items ≤ connections }
-    ensures all { result.1 ≡ false → length result.0.items ≡ connections }
+    ensures few { length result.threads.items ≤ connections }
+    ensures all { result.accept_failed ≡ false → length result.threads.items ≡ connections }
 {
     let mut threads = ArrayVec::new();
     for _accepted in 0..connections {
         let Ok(stream) = accepted(&listener) else {
-            return (threads, true);
+            return Arrivals {
+                threads,
+                accept_failed: true,
+            };
         };
         let thread = scope.spawn(
             move || -> Ended
@@ -122,7 +128,10 @@ fn accept_all<'s, E, R: Threads + Wait + Sync>(
         );
         threads.push(thread.ok());
     }
-    (threads, false)
+    Arrivals {
+        threads,
+        accept_failed: false,
+    }
 }
 
 /// Waits for the threads, and returns how each connection ended.

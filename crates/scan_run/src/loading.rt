@@ -6,8 +6,8 @@ ghost use Rattle.byte_io.specs.Sources.{Named, after};
 ghost use Rattle.byte_io.specs.Transfers.{AppendsPart};
 ghost use Rattle.scan_run.specs.Loading.{Judges, Loads, LoadsAll, LoadsFile, LoadsNamed, PublishesPrefix, IsMessage, is_write_fault, message_on, plan_line};
 
-use byte_io::{ByteIn, ByteOut, Failed, Missing, Opener, write_all};
-use itoa::Buffer;
+use crate::message::{say, say_number};
+use byte_io::{ByteIn, ByteOut, Failed, Missing, Opener};
 use lit_plan::Compiled;
 use plan_file::{Fault, read_plans};
 use plan_store::{PlanStore, Ticket};
@@ -174,39 +174,8 @@ fn publish_plan<R: Wait, E: ByteOut>(
     };
     let number = store.number(&ticket);
     tickets.push_reserved(ticket);
-    match say_number(number, err) {
+    match say_number(b"scand: plan ", number, err) {
         Ok(()) => Ok(()),
         Err(Failed) => Err(Fault::WriteFault),
     }
-}
-
-/// Writes the line of a plan's number.
-fn say_number<E: ByteOut>(number: u64, err: &mut E) -> Result<(), Failed>
-    ensures ok { OnOk result (Appends (E.written err.old) (E.written err.new) (plan_line number)) }
-    ensures err { OnErr result (AppendsPart (E.written err.old) (E.written err.new) (plan_line number)) }
-    ensures flag { E.has_failed err.new ≡ (E.has_failed err.old || is_err result) }
-{
-    let mut digits = Buffer::new();
-    say(
-        b"scand: plan ",
-        digits.format(number).as_bytes(),
-        b"\n",
-        err,
-    )
-}
-
-/// Writes a line that is given in three parts. It takes no memory.
-pub(crate) fn say<E: ByteOut>(
-    prefix: &[u8],
-    middle: &[u8],
-    end: &[u8],
-    err: &mut E,
-) -> Result<(), Failed>
-    ensures ok { OnOk result (Appends (E.written err.old) (E.written err.new) (prefix.now ++ (middle.now ++ end.now))) }
-    ensures err { OnErr result (AppendsPart (E.written err.old) (E.written err.new) (prefix.now ++ (middle.now ++ end.now))) }
-    ensures flag { E.has_failed err.new ≡ (E.has_failed err.old || is_err result) }
-{
-    write_all(err, prefix)?;
-    write_all(err, middle)?;
-    write_all(err, end)
 }

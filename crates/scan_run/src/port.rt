@@ -4,9 +4,8 @@ ghost use Rattle.std.specs.Io.KnownBytes.{Appends};
 ghost use Rattle.byte_io.specs.Transfers.{AppendsPart};
 ghost use Rattle.scan_run.specs.Messages.{port_line};
 
-use crate::loading::say;
+use crate::message::say_number;
 use byte_io::{ByteOut, Failed};
-use itoa::Buffer;
 
 /// Writes the line `scand: port P`. It takes no memory.
 ///
@@ -17,15 +16,5 @@ pub fn say_port<E: ByteOut>(port: u16, err: &mut E) -> Result<(), Failed>
     ensures err { OnErr result (AppendsPart (E.written err.old) (E.written err.new) (port_line port)) }
     ensures flag { E.has_failed err.new ≡ (E.has_failed err.old || is_err result) }
 {
-    say_line(u64::from(port), err)
-}
-
-/// Writes the line of a port, by its number.
-fn say_line<E: ByteOut>(port: u64, err: &mut E) -> Result<(), Failed>
-    ensures ok { OnOk result (Appends (E.written err.old) (E.written err.new) (port_line port)) }
-    ensures err { OnErr result (AppendsPart (E.written err.old) (E.written err.new) (port_line port)) }
-    ensures flag { E.has_failed err.new ≡ (E.has_failed err.old || is_err result) }
-{
-    let mut digits = Buffer::new();
-    say(b"scand: port ", digits.format(port).as_bytes(), b"\n", err)
+    say_number(b"scand: port ", u64::from(port), err)
 }

@@ -12,11 +12,11 @@ use std::fmt::Write;
 pub(crate) fn report<O: ByteOut, E: ByteOut>(
     alloc: Global,
     endings: &[Option<Ended>],
-    faulty: bool,
+    accept_failed: bool,
     out: &mut O,
     err: &mut E,
 ) -> Status
-    ensures reported { Reports endings.now faulty result (O.has_failed out.new)
+    ensures reported { Reports endings.now accept_failed result (O.has_failed out.new)
         (E.has_failed err.old) (E.has_failed err.new)
         (O.written out.old) (O.written out.new) (E.written err.old) (E.written err.new) }
 
@@ -31,7 +31,7 @@ pub(crate) fn report<O: ByteOut, E: ByteOut>(
     let Ok(()) = write_all(out, text.as_bytes()) else {
         return Status::Trouble;
     };
-    if faulty {
+    if accept_failed {
         say_text("scand: accept fault\n", err);
         return Status::Trouble;
     }

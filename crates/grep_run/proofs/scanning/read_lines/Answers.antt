@@ -38,6 +38,7 @@ loop-turn-preserved g d = record {
   room = omega (arith, d.loop-turn.invariant.room);
   plan = d.in_ok-end-in-Ok.ensures.plan ∙ d.loop-turn.invariant.plan;
   flag = search rules;
+  unread = search rules;
 }
 
 pub returns-clause-answer : goal.returns-clause-answer

@@ -6,7 +6,7 @@ use Rattle.grep_run.specs.Writers.{Writer, writer}
 use Rattle.grep_run.proofs.ScanLemmas.{ReadSoFar}
 use Rattle.grep_run.proofs.scanning.read_lines.Given as goal
 
--- the bytes so far are dealt with, and no write failed
+-- the bytes so far are dealt with, and no write and no read failed
 abbrev pub invariant-loop-turn : goal.invariant-loop-turn
 invariant-loop-turn g l = record {
   reading : (o : GrepOptions) (test : List ℕ → Bool) (name : List ℕ) (c : Content) (before : Writer) → StandsAfter o test name [] l.fn.picker l.fn.block before (writer g.W.ByteOut.written g.W.ByteOut.has_failed l.fn.out)
@@ -14,4 +14,5 @@ invariant-loop-turn g l = record {
   room : 0 < length l.piece;
   plan : l.picker.plan ≡ l.fn.picker.plan;
   flag : g.W.ByteOut.has_failed l.out ≡ g.W.ByteOut.has_failed l.fn.out;
+  unread : g.I.ByteIn.has_failed l.input ≡ g.I.ByteIn.has_failed l.fn.input;
 }

@@ -16,9 +16,9 @@ returns-in_default-write_all-clause-reported g c =
     (subst (λ (t : List ℕ). AppendsPart (g.O.ByteOut.written c.args.out.now) (g.O.ByteOut.written c.write_all.new.out) t) text c.in_default-write_all.ensures.err)
     (Appends-nil (g.E.ByteOut.written c.args.err.now))
 
-pub returns-then-faulty-clause-reported : goal.returns-then-faulty-clause-reported
-returns-then-faulty-clause-reported g c =
+pub returns-then-accept_failed-clause-reported : goal.returns-then-accept_failed-clause-reported
+returns-then-accept_failed-clause-reported g c =
     let text : c.as_bytes.result.now ≡ lines_from 1 c.args.endings.now = c.as_bytes.ensures.value ∙ c.in-Ok.ensures.text in
-    Faulty c.if-faulty.true refl
+    Faulty c.if-accept_failed.true refl
     (subst (λ (t : List ℕ). Appends (g.O.ByteOut.written c.args.out.now) (g.O.ByteOut.written c.write_all.new.out) t) text c.in-Ok-write_all.ensures.ok)
-    c.say_text-then-faulty.ensures.exact
+    c.say_text-then-accept_failed.ensures.exact
