@@ -1,5 +1,5 @@
 # Builds the programs into bin/, tests and installs them. Only a proved program is built: the first build proves each
-# crate below it, which takes 17 to 38 minutes on four processors; later ones prove only what changed.
+# crate below it, which takes 15 to 38 minutes on four processors; later ones prove only what changed.
 #
 #   make                    the programs, in bin/, for the processor level of this machine; -j proves crates side by side
 #   make CPU=x86-64-v2      the same for any processor of the last fifteen years
