@@ -23,13 +23,16 @@ the list could not be planned, or the output not be written, and the output is t
 
 import argparse
 import collections
+import contextlib
 import functools
 import importlib.machinery
+import logging
 import os
 import shutil
 import subprocess
 import sys
 import tempfile
+import time
 import zipfile
 
 try:
@@ -38,10 +41,15 @@ except ImportError as fault:
     print(f"scan_archive: {fault} (Debian's package is python3-distributed)", file=sys.stderr)
     sys.exit(2)
 
+# Where a job ends early on a busy machine, Dask lets connections go that it still waited for, and asyncio reports each.
+logging.getLogger("asyncio").setLevel(logging.CRITICAL)
+
 HERE = os.path.dirname(os.path.abspath(__file__))
 # Where the package is, unless Python knows it from elsewhere.
 CLIENTS = os.path.join(HERE, "..", "..", "clients", "python")
 CHUNK = 1 << 20
+# Seconds for which a worker waits for what it is sent, and between two looks.
+PATIENCE, PAUSE = 60, 0.1
 
 
 def line_start(file, at):
@@ -80,9 +88,29 @@ def output(words, text, statuses):
     return done.stdout
 
 
-def sent(name):
-    """Where a worker has a file that it was sent."""
-    return os.path.join(distributed.get_worker().local_directory, name)
+def awaited(attempt, name):
+    """What a worker was sent, by an attempt that answers None where it is not there yet: a worker that comes later may be
+    given a part before. RuntimeError where it does not come."""
+    for _ in range(int(PATIENCE / PAUSE)):
+        if (found := attempt()) is not None:
+            return found
+        time.sleep(PAUSE)
+    raise RuntimeError(f"{name} did not come")
+
+
+def sent(name, size):
+    """Where a worker has a file of this size that it was sent, once all of it is there."""
+    path = os.path.join(distributed.get_worker().local_directory, name)
+    return awaited(lambda: path if os.path.exists(path) and os.path.getsize(path) == size else None, path)
+
+
+def package(name="fiolargu"):
+    """A module of the package `fiolargu` that a worker was sent."""
+    def attempt():
+        importlib.invalidate_caches()
+        with contextlib.suppress(ModuleNotFoundError):
+            return importlib.import_module(name)
+    return awaited(attempt, name)
 
 
 @located
@@ -94,7 +122,7 @@ def selected(litgrep, flags, words, path, start, end):
         text = file.read(last - first)
         if len(text) < last - first or os.fstat(file.fileno()).st_size < end:
             raise RuntimeError(f"{path} is shorter than it was")
-    return output([litgrep, *flags, "-f", sent(words)], text, {0, 1})
+    return output([litgrep, *flags, "-f", sent(*words)], text, {0, 1})
 
 
 def chunks(file, size):
@@ -109,8 +137,7 @@ def chunks(file, size):
 
 def begun(scand, plan_file):
     """A scand that began with the plan of a file, which it checked, and the number that it told for the plan."""
-    from fiolargu.scand import Client
-
+    Client = package("fiolargu.scand").Client
     reader, writer = os.pipe()
     with open(reader, errors="replace") as messages:
         with open(writer, "wb") as file:
@@ -135,12 +162,11 @@ def loaded(library, plan_file):
     # Read once: a thread of another job may put its plan here at any time.
     name, plan = getattr(worker, "scan_archive_plan", (None, None))
     if name != plan_file:
-        from fiolargu import FiolarguError, Plan
-
+        fiolargu = package()
         name_library(library)
         try:
-            plan = Plan.from_file(plan_file)
-        except FiolarguError as fault:
+            plan = fiolargu.Plan.from_file(plan_file)
+        except fiolargu.FiolarguError as fault:
             raise RuntimeError(f"{plan_file}: {fault}") from fault
         worker.scan_archive_plan = plan_file, plan
     return plan
@@ -150,7 +176,7 @@ def loaded(library, plan_file):
 def library_hits(library, plan_file, longest, path, start, end):
     """A line for each hit that ends in a part of a file, by the library."""
     lead = min(longest - 1, start)
-    with loaded(library, sent(plan_file)).stream(start - lead) as stream, open(path, "rb") as file:
+    with loaded(library, sent(*plan_file)).stream(start - lead) as stream, open(path, "rb") as file:
         file.seek(start - lead)
         stream.feed(file.read(lead))
         found = (stream.feed(piece) for piece in chunks(file, end - start))
@@ -159,8 +185,7 @@ def library_hits(library, plan_file, longest, path, start, end):
 
 def library_fault(library):
     """Why a worker cannot load the library, or None."""
-    import fiolargu
-
+    fiolargu = package()
     name_library(library)
     try:
         fiolargu.library_version()
@@ -172,7 +197,7 @@ def library_fault(library):
 @located
 def hits(scand, plan_file, longest, path, start, end):
     """The same, by a scand."""
-    client, plan = begun(scand, sent(plan_file))
+    client, plan = begun(scand, sent(*plan_file))
     with client, client.open(plan) as stream, open(path, "rb") as file:
         lead = min(longest - 1, start)
         file.seek(start - lead)
@@ -209,15 +234,17 @@ def send(cluster, given):
     with open(given.words, "rb") as file:
         text = file.read()
     with tempfile.NamedTemporaryFile(prefix="scan_archive-", suffix=".plan" if is_planned else ".words") as file:
-        name = os.path.basename(file.name)
         if is_planned:
             output([given.litplan, "pack", *flags, "-", file.name], text, {0})
-            by = (hits, given.scand) if given.scand else (library_hits, given.library)
-            call = *by, name, max(map(len, text.split(b"\n")))
         else:
             file.write(text)
             file.flush()
-            call = selected, given.litgrep, flags + ["-c"] * (given.what == "count"), name
+        named_file = os.path.basename(file.name), os.path.getsize(file.name)
+        if is_planned:
+            by = (hits, given.scand) if given.scand else (library_hits, given.library)
+            call = *by, named_file, max(map(len, text.split(b"\n")))
+        else:
+            call = selected, given.litgrep, flags + ["-c"] * (given.what == "count"), named_file
         cluster.upload_file(file.name)
     return call
 

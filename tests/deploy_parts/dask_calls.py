@@ -6,6 +6,8 @@ import os
 import subprocess
 import sys
 import tempfile
+import threading
+import time
 import types
 
 from support.programs import LITGREP, TOP, lay_out
@@ -98,6 +100,38 @@ def two_jobs():
             yield "a plan that another job replaces", script.loaded(None, "kept.plan").name[0], "kept.plan"
 
 
+def late():
+    """A worker waits for all of a list that it is sent, and says so where that does not come."""
+    with tempfile.TemporaryDirectory() as folder, on_a_worker(folder) as script:
+        lay_out(folder, {"log": b"a cat\nlog\n", "words": b""})
+        path, words = os.path.join(folder, "log"), os.path.join(folder, "words")
+
+        def write():
+            for piece in b"c", b"at\n":
+                time.sleep(0.15)
+                with open(words, "ab") as file:
+                    file.write(piece)
+
+        writer = threading.Thread(target=write)
+        writer.start()
+        got = script.selected(LITGREP, [], ("words", 4), path, 0, 10)
+        writer.join()
+        yield "lines by a list that comes late, and in pieces", got, b"a cat\n"
+        script.PATIENCE = 0.2
+        for name in "words", "none":
+            try:
+                got = script.selected(LITGREP, [], (name, 5), path, 0, 10)
+            except RuntimeError as fault:
+                got = str(fault)
+            yield f"a list {name} that does not come whole", got, f"tcp://worker: {os.path.join(folder, name)} did not come"
+        sys.modules["fiolargu"] = None
+        try:
+            got = script.package()
+        except RuntimeError as fault:
+            got = str(fault)
+        yield "a package that does not come", got, "fiolargu did not come"
+
+
 def shorter():
     """A worker whose file is shorter than it was says so, for lines as for hits."""
     lines = [b"line %06d\n" % number for number in range(3000)]
@@ -111,7 +145,7 @@ def shorter():
             found = []
             for place in places:
                 try:
-                    found.append(script.selected(LITGREP, flags, "words", path, *place))
+                    found.append(script.selected(LITGREP, flags, ("words", 5), path, *place))
                 except RuntimeError as fault:
                     found.append(str(fault))
             return found
@@ -145,4 +179,4 @@ def endings():
     yield "the end of a job without an output", done.returncode, 2
 
 
-TESTS = (two_jobs, shorter, endings)
+TESTS = (two_jobs, late, shorter, endings)
