@@ -111,6 +111,9 @@ def unpacked(folder, path):
         yield "a unit", "[Socket]" in unit.read(), True
     with open(f"{folder}/to/here/lib/systemd/system/scand@.service") as unit:
         yield "the program of a unit", re.search("^ExecStart=(.*) --stdio", unit.read(), re.M)[1], f"{folder}/to/here/bin/scand"
+    for name in "a new", "a'b", 'a"b', "a\\b", "50%", "a$b", "a&b", "a|b":
+        status, said = ran("sh", f"{folder}/a b/{top}/install.sh", f"{folder}/{name}")
+        yield f"install.sh into {name}", (status, f"{folder}/{name}: the systemd units need" in said, os.path.exists(f"{folder}/{name}")), (2, True, False)
     with open(f"{folder}/a b/{top}/install.sh") as file, open(f"{folder}/a b/{top}/older.sh", "w") as older:
         older.write(file.read().replace("avx2", "no_such_flag"))
     yield "install.sh on an older processor", ran("sh", f"{folder}/a b/{top}/older.sh", f"{folder}/older", umask=0o077), (0, "")
